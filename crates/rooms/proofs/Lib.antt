@@ -1,0 +1,4 @@
+mod Written
+mod Decoded
+mod Windows
+mod Alike

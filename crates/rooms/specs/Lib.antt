@@ -1,0 +1,5 @@
+pub mod Refusals
+pub mod Meaning
+pub mod Record
+pub mod Window
+pub mod Calls

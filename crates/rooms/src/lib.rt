@@ -1,0 +1,25 @@
+mod calls;
+mod latch;
+mod record;
+mod refusal;
+mod room;
+mod slot;
+mod window;
+
+pub use calls::RoomAnswer;
+pub use calls::RoomCall;
+pub use calls::answer;
+pub use calls::answer_alike;
+pub use record::RecordCells;
+pub use record::RecordLatches;
+pub use record::RecordRoom;
+pub use refusal::BadRecord;
+pub use refusal::RoomRefusal;
+pub use room::Cells;
+pub use room::Room;
+pub use slot::SlotCells;
+pub use slot::SlotLatches;
+pub use slot::SlotRoom;
+pub use window::Window;
+pub use window::WindowCells;
+pub use window::WindowLatches;
