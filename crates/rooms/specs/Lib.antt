@@ -2,4 +2,5 @@ pub mod Refusals
 pub mod Meaning
 pub mod Record
 pub mod Window
+pub mod Kinds
 pub mod Calls

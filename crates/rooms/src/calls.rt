@@ -2,12 +2,11 @@ ghost use mathlib.Core.Bool.{true};
 ghost use mathlib.Core.Path.{_≡_};
 ghost use Rattle.rooms.specs.Calls.{answer-to, after-call, answers-to, changed, LeftBy, Tells};
 use crate::refusal::RoomRefusal;
-use crate::refusal::RoomRefusalDebug;
 use crate::refusal::RoomRefusalPartialEq;
 use crate::room::Room;
 
 // A call of a room, as a value.
-#[derive(Clone, Copy, Debug)]
+#[derive(Clone, Copy)]
 pub enum RoomCall {
     Size,
     LatchCount,
@@ -20,7 +19,7 @@ pub enum RoomCall {
 }
 
 // What a room answers.
-#[derive(Clone, Copy, PartialEq, Eq, Debug)]
+#[derive(Clone, Copy, PartialEq, Eq)]
 pub enum RoomAnswer {
     Count(usize),
     Cell(Option<i64>),

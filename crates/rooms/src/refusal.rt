@@ -2,7 +2,7 @@ ghost use mathlib.Core.Path.{_≡_};
 ghost use Rattle.rooms.specs.Refusals.{refusal-number, bad-record-number};
 
 // Why a room refuses a call.
-#[derive(Clone, Copy, PartialEq, Eq, Debug)]
+#[derive(Clone, Copy, PartialEq, Eq)]
 pub enum RoomRefusal {
     NoSuchCell,
     LatchRefused,
@@ -20,7 +20,7 @@ impl RoomRefusal {
 }
 
 // Why bytes are no record.
-#[derive(Clone, Copy, PartialEq, Eq, Debug)]
+#[derive(Clone, Copy)]
 pub enum BadRecord {
     Length,
     // the cell with the lowest wrong mark

@@ -49,11 +49,7 @@ pub impl Cells for SlotRoom as SlotCells {
     }
 
     fn get(&self, c: usize) -> Option<i64> {
-        if c < CELLS {
-            self.cells[c]
-        } else {
-            None
-        }
+        if c < CELLS { self.cells[c] } else { None }
     }
 
     fn put(&mut self, c: usize, n: i64) -> Result<(), RoomRefusal> {

@@ -1,0 +1,62 @@
+-- Hexadecimal digits, two at a time. Assumes nothing.
+use Prim.Native.Nat.{ℕ, _+_, _*_, _/_, _%_, _≤_, _<_}
+use mathlib.Core.Path.{_≡_, refl, sym, ap, _∙_}
+use mathlib.Core.List.{List, [], _∷_, _++_, append-assoc}
+use native.Mathlib.Omega.{arith}
+use lib.ListN.{length, getD, take, drop}
+use lib.Utf8.{encode}
+use Rattle.std.specs.Options.{mapped}
+use Rattle.std.specs.declared.option.Option.{Option}
+use Rattle.std.specs.declared.option.Option.the-variants.{Some, None}
+use Rattle.std.specs.Written.{Put}
+use Rattle.std.specs.declared.fmt.Formatter.{Formatter}
+use Rattle.std.proofs.Writes.{put-is, put-more}
+use Rattle.std.proofs.shelf.Ascii.{encode-ascii}
+use Rattle.std.proofs.shelf.Lists.{take-more, joined-more}
+use Rattle.std.proofs.shelf.Ways.{tells}
+use Rattle.console.specs.Hex.{digit-value, byte-of, before, bytes-of, digit-of, hex-of, Reads-back}
+
+-- what was read, before what is left
+abbrev pub onto : List ℕ → List ℕ → Option (List ℕ)
+onto done word = mapped (λ bs. done ++ bs) (bytes-of word)
+
+one-before : (done : List ℕ) (b : ℕ) (o : Option (List ℕ)) → mapped (λ bs. (done ++ b ∷ []) ++ bs) o ≡ mapped (λ bs. done ++ bs) (before (Some b) o)
+one-before done b None = refl
+one-before done b (Some bs) = ap (λ l. Some l) (append-assoc done (b ∷ []) bs)
+
+pub one-more : (done word : List ℕ) (b : ℕ) → 2 ≤ length word → Some b ≡ byte-of (digit-value (getD word 0 0)) (digit-value (getD word 1 0)) → onto (done ++ b ∷ []) (drop 2 word) ≡ onto done word
+one-more done [] b h e = absurd (omega arith)
+one-more done (high ∷ []) b h e = absurd (omega arith)
+one-more done (high ∷ low ∷ word) b h e =
+    one-before done b (bytes-of word) ∙ ap (λ x. mapped (λ bs. done ++ bs) (before x (bytes-of word))) e
+
+digit-back : (d : ℕ) → d < 16 → digit-value (digit-of d) ≡ Some d
+digit-back d h = grind (arith, tells)
+
+pub reads-back : Reads-back
+reads-back [] h = refl
+reads-back (b ∷ bytes) h =
+    let high = digit-back (b / 16) (omega (arith, h .0)) in
+    let low = digit-back (b % 16) (omega arith) in
+    let whole : 16 * (b / 16) + b % 16 ≡ b = omega arith in
+    rw (high, low, reads-back bytes (h .1), whole)
+
+abbrev written : ℕ → List ℕ
+written b = digit-of (b / 16) ∷ digit-of (b % 16) ∷ []
+
+encode-digit : (c d : ℕ) → d < 16 → c ≡ digit-of d → encode c ≡ digit-of d ∷ []
+encode-digit c d h e =
+    let small : c < 128 = grind (arith, tells) in encode-ascii c small ∙ ap (λ x. x ∷ []) e
+
+-- one more byte is written after the first i
+module _ {W : Type 0} (took : W → List ℕ → W → Type 0) (f : Formatter W) (bytes : List ℕ) (i high low : ℕ) (inside : i < length bytes) (small : getD bytes i 0 < 256) (is-high : high ≡ digit-of (getD bytes i 0 / 16)) (is-low : low ≡ digit-of (getD bytes i 0 % 16)) where
+  one-written : (hex-of (take i bytes) ++ encode high) ++ encode low ≡ hex-of (take (i + 1) bytes)
+  one-written =
+      let b = getD bytes i 0 in
+      let first = encode-digit high (b / 16) (omega arith) is-high in
+      let second = encode-digit low (b % 16) (omega arith) is-low in
+      (λ k. (hex-of (take i bytes) ++ first k) ++ second k) ∙ append-assoc (hex-of (take i bytes)) (digit-of (b / 16) ∷ []) (digit-of (b % 16) ∷ []) ∙ joined-more written [] (take i bytes) b ∙ ap hex-of (sym (take-more bytes i 0 inside))
+
+  pub byte-put : (g h k : Formatter W) → Put took f (hex-of (take i bytes)) g → Put took g (encode high) h → Put took h (encode low) k → Put took f (hex-of (take (i + 1) bytes)) k
+  byte-put g h k sofar p q =
+      put-is took f _ _ k one-written (put-more took f _ h _ k (put-more took f _ g _ h sofar p) q)

@@ -1,0 +1,78 @@
+// Bytes in hexadecimal: two digits in small letters for each byte, the high one first.
+ghost use mathlib.Core.Path.{_≡_};
+ghost use Prim.Native.Nat.{_<_};
+ghost use Rattle.std.specs.Of.Vec.{vec-items};
+ghost use Rattle.std.specs.Options.{mapped};
+ghost use Rattle.std.specs.Vec.{made};
+ghost use Rattle.std.specs.declared.option.Option.the-variants.{Some};
+ghost use Rattle.console.specs.Hex.{digit-value, byte-of, bytes-of, digit-of, hex-of, Reads-back};
+use std::alloc::AllocError;
+use std::alloc::Global;
+use std::fmt;
+
+// The bytes that `word` writes, or None where it is not hexadecimal.
+pub fn hex_bytes(heap: Global, word: &[u8]) -> Result<Option<Vec<u8>>, AllocError>
+    ensures value { λ r. ⌜ made r (λ o. mapped vec-items o ≡ bytes-of (now (word .entry))) ⌝ }
+    ensures back { λ _. ⌜ Reads-back ⌝ }
+{
+    let mut bytes = Vec::new(heap);
+    let mut rest = word;
+    while let [high, low, after @ ..] = rest {
+        let Some(b) = byte(*high, *low) else {
+            return Ok(None);
+        };
+        bytes.push(b)?;
+        rest = after;
+    }
+    if rest.is_empty() {
+        Ok(Some(bytes))
+    } else {
+        Ok(None)
+    }
+}
+
+fn byte(high: u8, low: u8) -> Option<u8>
+    ensures { λ r. ⌜ r ≡ byte-of (digit-value high) (digit-value low) ⌝ }
+{
+    let h = digit_value(high)?;
+    let l = digit_value(low)?;
+    Some(16 * h + l)
+}
+
+fn digit_value(b: u8) -> Option<u8>
+    ensures { λ r. ⌜ r ≡ digit-value b ⌝ }
+{
+    match b {
+        b'0'..=b'9' => Some(b - b'0'),
+        b'a'..=b'f' => Some(b - b'a' + 10),
+        _ => None,
+    }
+}
+
+// The digit of a value below 16.
+fn digit(d: u8) -> char
+    requires { ⌜ d < 16 ⌝ }
+    ensures { λ r. ⌜ r ≡ digit-of d ⌝ }
+{
+    if d < 10 {
+        char::from(b'0' + d)
+    } else {
+        char::from(b'a' - 10 + d)
+    }
+}
+
+// Bytes that print in hexadecimal.
+#[derive(Clone, Copy)]
+pub struct Hex<'a>(pub &'a [u8]);
+
+pub impl fmt::Display for Hex<'_> as HexDisplay {
+    ghost shown = { λ h. Some (hex-of (h .0 .now)) };
+
+    fn fmt<W: fmt::Write>(&self, f: &mut fmt::Formatter<W>) -> fmt::Result {
+        for b in self.0 {
+            f.write_char(digit(*b / 16))?;
+            f.write_char(digit(*b % 16))?;
+        }
+        Ok(())
+    }
+}

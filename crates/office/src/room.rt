@@ -1,0 +1,110 @@
+ghost use mathlib.Core.Path.{_≡_};
+ghost use Rattle.std.specs.Options.{mapped};
+ghost use Rattle.std.specs.declared.result.Result.the-variants.{Ok, Err};
+ghost use Rattle.rooms.specs.Calls.{answer-to, after-call};
+ghost use Rattle.rooms.specs.Meaning.{size-of, latch-count};
+ghost use Rattle.office.specs.Rooms.{meaning-of, record-of, kind-meaning, part, Unopened};
+use crate::command::RoomChoice;
+use crate::command::RoomKind;
+use rooms::BadRecord;
+use rooms::Cells;
+use rooms::RecordCells;
+use rooms::RecordLatches;
+use rooms::RecordRoom;
+use rooms::Room;
+use rooms::RoomAnswer;
+use rooms::RoomCall;
+use rooms::SlotCells;
+use rooms::SlotLatches;
+use rooms::SlotRoom;
+use rooms::Window;
+use rooms::WindowCells;
+use rooms::WindowLatches;
+use rooms::answer;
+
+// The room that the office works on, of any kind.
+#[derive(Drop)]
+pub enum OfficeRoom {
+    Slot(SlotRoom),
+    Record(RecordRoom),
+    SlotWindow(Window<SlotRoom>),
+    RecordWindow(Window<RecordRoom>),
+}
+
+impl OfficeRoom {
+    pub fn open(choice: RoomChoice) -> Result<OfficeRoom, BadRecord>
+        ensures { λ r. ⌜ elim r [ Ok room ↦ meaning-of room ≡ part (choice .base) (kind-meaning (choice .kind)) | Err why ↦ Unopened why (choice .kind) ] ⌝ }
+    {
+        let RoomChoice { base, kind } = choice;
+        match (kind, base) {
+            (RoomKind::Slot, None) => Ok(OfficeRoom::Slot(SlotRoom::new())),
+            (RoomKind::Slot, Some(base)) => Ok(OfficeRoom::SlotWindow(Window::new(
+                SlotRoom::new(),
+                base,
+            ))),
+            (RoomKind::Record(bytes), None) => Ok(OfficeRoom::Record(RecordRoom::open(&bytes)?)),
+            (RoomKind::Record(bytes), Some(base)) => Ok(OfficeRoom::RecordWindow(Window::new(
+                RecordRoom::open(&bytes)?,
+                base,
+            ))),
+        }
+    }
+
+    // Does one call, and gives the room back with its answer.
+    pub fn answer(self, call: RoomCall) -> (OfficeRoom, RoomAnswer)
+        ensures answer { λ r. ⌜ r .1 ≡ answer-to (meaning-of self) call ⌝ }
+        ensures after { λ r. ⌜ meaning-of (r .0) ≡ after-call (meaning-of self) call ⌝ }
+    {
+        match self {
+            OfficeRoom::Slot(mut room) => {
+                let reply = answer(&mut room, call);
+                (OfficeRoom::Slot(room), reply)
+            }
+            OfficeRoom::Record(mut room) => {
+                let reply = answer(&mut room, call);
+                (OfficeRoom::Record(room), reply)
+            }
+            OfficeRoom::SlotWindow(mut room) => {
+                let reply = answer(&mut room, call);
+                (OfficeRoom::SlotWindow(room), reply)
+            }
+            OfficeRoom::RecordWindow(mut room) => {
+                let reply = answer(&mut room, call);
+                (OfficeRoom::RecordWindow(room), reply)
+            }
+        }
+    }
+
+    pub fn size(&self) -> usize
+        ensures { λ r. ⌜ r ≡ size-of (meaning-of (now (self .entry))) ⌝ }
+    {
+        match self {
+            OfficeRoom::Slot(room) => room.size(),
+            OfficeRoom::Record(room) => room.size(),
+            OfficeRoom::SlotWindow(room) => room.size(),
+            OfficeRoom::RecordWindow(room) => room.size(),
+        }
+    }
+
+    pub fn latch_count(&self) -> usize
+        ensures { λ r. ⌜ r ≡ latch-count (meaning-of (now (self .entry))) ⌝ }
+    {
+        match self {
+            OfficeRoom::Slot(room) => room.latch_count(),
+            OfficeRoom::Record(room) => room.latch_count(),
+            OfficeRoom::SlotWindow(room) => room.latch_count(),
+            OfficeRoom::RecordWindow(room) => room.latch_count(),
+        }
+    }
+
+    // The bytes of the record, where the room is one or a window over one.
+    pub fn record(&self) -> Option<&[u8]>
+        ensures { λ r. ⌜ mapped now r ≡ record-of (now (self .entry)) ⌝ }
+    {
+        match self {
+            OfficeRoom::Record(room) => Some(room.bytes()),
+            OfficeRoom::RecordWindow(window) => Some(window.below().bytes()),
+            OfficeRoom::Slot(_) | OfficeRoom::SlotWindow(_) => None,
+        }
+    }
+}
