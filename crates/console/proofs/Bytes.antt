@@ -1,11 +1,12 @@
 -- Hexadecimal digits, two at a time. Assumes nothing.
 use Prim.Native.Nat.{ℕ, _+_, _*_, _/_, _%_, _≤_, _<_}
 use mathlib.Core.Path.{_≡_, refl, sym, ap, _∙_}
+use mathlib.Core.Bool.{true}
 use mathlib.Core.List.{List, [], _∷_, _++_, append-assoc}
 use native.Mathlib.Omega.{arith}
 use lib.ListN.{length, getD, take, drop}
 use lib.Utf8.{encode}
-use Rattle.std.specs.Options.{mapped}
+use Rattle.std.specs.Options.{isSome, mapped}
 use Rattle.std.specs.declared.option.Option.{Option}
 use Rattle.std.specs.declared.option.Option.the-variants.{Some, None}
 use Rattle.std.specs.Written.{Put}
@@ -29,6 +30,16 @@ one-more done [] b h e = absurd (omega arith)
 one-more done (high ∷ []) b h e = absurd (omega arith)
 one-more done (high ∷ low ∷ word) b h e =
     one-before done b (bytes-of word) ∙ ap (λ x. mapped (λ bs. done ++ bs) (before x (bytes-of word))) e
+
+kept-some : (b : ℕ) (o : Option (List ℕ)) → isSome o ≡ isSome (before (Some b) o)
+kept-some b None = refl
+kept-some b (Some bs) = refl
+
+pub some-more : (word : List ℕ) (o : Option ℕ) → 2 ≤ length word → o ≡ byte-of (digit-value (getD word 0 0)) (digit-value (getD word 1 0)) → isSome o ≡ true → isSome (bytes-of (drop 2 word)) ≡ isSome (bytes-of word)
+some-more [] o h e t = absurd (omega arith)
+some-more (high ∷ []) o h e t = absurd (omega arith)
+some-more (high ∷ low ∷ word) None h e t = let z : _≡_ {A = ℕ} 0 1 = cc in absurd (omega arith)
+some-more (high ∷ low ∷ word) (Some b) h e t = kept-some b (bytes-of word) ∙ ap (λ x. isSome (before x (bytes-of word))) e
 
 digit-back : (d : ℕ) → d < 16 → digit-value (digit-of d) ≡ Some d
 digit-back d h = grind (arith, tells)

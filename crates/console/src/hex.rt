@@ -2,7 +2,7 @@
 ghost use mathlib.Core.Path.{_≡_};
 ghost use Prim.Native.Nat.{_<_};
 ghost use Rattle.std.specs.Of.Vec.{vec-items};
-ghost use Rattle.std.specs.Options.{mapped};
+ghost use Rattle.std.specs.Options.{isSome, mapped};
 ghost use Rattle.std.specs.Vec.{made};
 ghost use Rattle.std.specs.declared.option.Option.the-variants.{Some};
 ghost use Rattle.console.specs.Hex.{digit-value, byte-of, bytes-of, digit-of, hex-of, Reads-back};
@@ -29,6 +29,20 @@ pub fn hex_bytes(heap: Global, word: &[u8]) -> Result<Option<Vec<u8>>, AllocErro
     } else {
         Ok(None)
     }
+}
+
+// Whether `word` is hexadecimal.
+pub fn is_hex(word: &[u8]) -> bool
+    ensures { λ r. ⌜ r ≡ isSome (bytes-of (now (word .entry))) ⌝ }
+{
+    let mut rest = word;
+    while let [high, low, after @ ..] = rest {
+        if byte(*high, *low).is_none() {
+            return false;
+        }
+        rest = after;
+    }
+    rest.is_empty()
 }
 
 fn byte(high: u8, low: u8) -> Option<u8>

@@ -12,6 +12,7 @@ mod words;
 pub use hex::Hex;
 pub use hex::HexDisplay;
 pub use hex::hex_bytes;
+pub use hex::is_hex;
 pub use line::read_line;
 pub use number::signed;
 pub use number::unsigned;

@@ -1,20 +1,21 @@
 ghost use mathlib.Core.Path.{_≡_};
 ghost use Rattle.rooms.specs.Meaning.{empty};
 ghost use Rattle.office.specs.Rooms.{meaning-of};
-use crate::command::Command;
-use crate::command::FaultDisplay;
-use crate::command::Misread;
-use crate::command::RoomChoice;
-use crate::command::read_command;
 use crate::room::OfficeRoom;
+use commands::Command;
+use commands::FaultDisplay;
+use commands::Misread;
+use commands::RoomChoice;
+use commands::RoomKind;
+use commands::read_command;
 use console::Hex;
 use console::HexDisplay;
 use console::Tally;
+use console::hex_bytes;
 use rooms::BadRecord;
 use rooms::RoomAnswer;
 use rooms::RoomCall;
 use rooms::RoomRefusal;
-use rooms::SlotRoom;
 use std::io;
 
 // The room that the office works on, and the count of what it answered. A line takes the desk and gives it back.
@@ -30,7 +31,7 @@ impl Desk {
         ensures { λ r. ⌜ meaning-of (r .room) ≡ empty 64 8 ⌝ }
     {
         Desk {
-            room: OfficeRoom::Slot(SlotRoom::new()),
+            room: OfficeRoom::slot(None),
             tally: Tally::new(),
         }
     }
@@ -43,7 +44,7 @@ impl Desk {
 
     // Answers one line.
     pub fn answer(self, rt: &LibcRuntime, line: &[u8]) -> io::Result<Desk> {
-        match read_command(rt.alloc(), line) {
+        match read_command(line) {
             Ok(Command::Room(choice)) => self.choose(rt, choice),
             Ok(Command::Record) => self.show_record(rt),
             Ok(Command::Call(call)) => self.call(rt, call),
@@ -52,8 +53,18 @@ impl Desk {
     }
 
     // A refused choice leaves the room before it.
-    fn choose(mut self, rt: &LibcRuntime, choice: RoomChoice) -> io::Result<Desk> {
-        match OfficeRoom::open(choice) {
+    fn choose(self, rt: &LibcRuntime, choice: RoomChoice<'_>) -> io::Result<Desk> {
+        match choice.kind {
+            RoomKind::Slot => self.open(rt, Ok(OfficeRoom::slot(choice.base))),
+            RoomKind::Record(hex) => match hex_bytes(rt.alloc(), hex) {
+                Ok(Some(bytes)) => self.open(rt, OfficeRoom::record(choice.base, &bytes)),
+                Ok(None) | Err(_) => self.error(rt, "there is no memory for these bytes", "the room before them stays"),
+            },
+        }
+    }
+
+    fn open(mut self, rt: &LibcRuntime, room: Result<OfficeRoom, BadRecord>) -> io::Result<Desk> {
+        match room {
             Ok(room) => {
                 self.room = room;
                 self.tally.ok();
@@ -69,19 +80,20 @@ impl Desk {
         Ok(self)
     }
 
+    fn error(mut self, rt: &LibcRuntime, why: &str, help: &str) -> io::Result<Desk> {
+        self.tally.error();
+        println!(rt, "error: {why}")?;
+        println!(rt, "  {help}")?;
+        Ok(self)
+    }
+
     fn show_record(mut self, rt: &LibcRuntime) -> io::Result<Desk> {
-        match self.room.record() {
-            Some(bytes) => {
-                let hex = Hex(bytes);
-                println!(rt, "{hex}")?;
-                self.tally.ok();
-            }
-            None => {
-                println!(rt, "error: this room is kept in no record")?;
-                println!(rt, "  open one by: room record HEX")?;
-                self.tally.error();
-            }
-        }
+        let Some(bytes) = self.room.bytes() else {
+            return self.error(rt, "this room is kept in no record", "open one by: room record HEX");
+        };
+        let hex = Hex(bytes);
+        println!(rt, "{hex}")?;
+        self.tally.ok();
         Ok(self)
     }
 

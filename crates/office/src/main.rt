@@ -1,6 +1,4 @@
-mod command;
 mod desk;
-mod keyword;
 mod room;
 
 use console::TallyDisplay;

@@ -1,11 +1,11 @@
 ghost use mathlib.Core.Path.{_≡_};
 ghost use Rattle.std.specs.Options.{mapped};
+ghost use Rattle.std.specs.declared.option.Option.the-variants.{Some};
 ghost use Rattle.std.specs.declared.result.Result.the-variants.{Ok, Err};
 ghost use Rattle.rooms.specs.Calls.{answer-to, after-call};
-ghost use Rattle.rooms.specs.Meaning.{size-of, latch-count};
-ghost use Rattle.office.specs.Rooms.{meaning-of, record-of, kind-meaning, part, Unopened};
-use crate::command::RoomChoice;
-use crate::command::RoomKind;
+ghost use Rattle.rooms.specs.Meaning.{empty, size-of, latch-count};
+ghost use Rattle.rooms.specs.Record.{decoded, Spoils};
+ghost use Rattle.office.specs.Rooms.{meaning-of, record-of, part};
 use rooms::BadRecord;
 use rooms::Cells;
 use rooms::RecordCells;
@@ -32,21 +32,24 @@ pub enum OfficeRoom {
 }
 
 impl OfficeRoom {
-    pub fn open(choice: RoomChoice) -> Result<OfficeRoom, BadRecord>
-        ensures { λ r. ⌜ elim r [ Ok room ↦ meaning-of room ≡ part (choice .base) (kind-meaning (choice .kind)) | Err why ↦ Unopened why (choice .kind) ] ⌝ }
+    // A new slot room, or a window of that base over one.
+    pub fn slot(base: Option<u8>) -> OfficeRoom
+        ensures { λ r. ⌜ meaning-of r ≡ part base (empty 64 8) ⌝ }
     {
-        let RoomChoice { base, kind } = choice;
-        match (kind, base) {
-            (RoomKind::Slot, None) => Ok(OfficeRoom::Slot(SlotRoom::new())),
-            (RoomKind::Slot, Some(base)) => Ok(OfficeRoom::SlotWindow(Window::new(
-                SlotRoom::new(),
-                base,
-            ))),
-            (RoomKind::Record(bytes), None) => Ok(OfficeRoom::Record(RecordRoom::open(&bytes)?)),
-            (RoomKind::Record(bytes), Some(base)) => Ok(OfficeRoom::RecordWindow(Window::new(
-                RecordRoom::open(&bytes)?,
-                base,
-            ))),
+        match base {
+            None => OfficeRoom::Slot(SlotRoom::new()),
+            Some(base) => OfficeRoom::SlotWindow(Window::new(SlotRoom::new(), base)),
+        }
+    }
+
+    // A record room over a copy of the bytes, or a window of that base over one.
+    pub fn record(base: Option<u8>, bytes: &[u8]) -> Result<OfficeRoom, BadRecord>
+        ensures { λ r. ⌜ elim r [ Ok room ↦ (record-of room ≡ Some (now (bytes .entry))) × (meaning-of room ≡ part base (decoded (now (bytes .entry)))) | Err why ↦ Spoils why (now (bytes .entry)) ] ⌝ }
+    {
+        let room = RecordRoom::open(bytes)?;
+        match base {
+            None => Ok(OfficeRoom::Record(room)),
+            Some(base) => Ok(OfficeRoom::RecordWindow(Window::new(room, base))),
         }
     }
 
@@ -98,7 +101,7 @@ impl OfficeRoom {
     }
 
     // The bytes of the record, where the room is one or a window over one.
-    pub fn record(&self) -> Option<&[u8]>
+    pub fn bytes(&self) -> Option<&[u8]>
         ensures { λ r. ⌜ mapped now r ≡ record-of (now (self .entry)) ⌝ }
     {
         match self {
