@@ -1,6 +1,7 @@
 -- The command language: which words are which command.
 use mathlib.Core.Bool.{cond}
 use mathlib.Core.List.{List, [], _∷_}
+use mathlib.Core.Path.{_≡_}
 use Prim.Native.Nat.{ℕ}
 use denote.Ref.{now}
 use lib.Chars.{codes}
@@ -20,6 +21,8 @@ use Rattle.commands.specs.declared.keyword.Keyword.{Keyword}
 use Rattle.commands.specs.declared.keyword.Keyword.the-variants as key
 use Rattle.commands.specs.declared.command.Command.{Command}
 use Rattle.commands.specs.declared.command.Command.the-variants as command
+use Rattle.commands.specs.declared.command.Misread.{Misread}
+use Rattle.commands.specs.declared.command.Misread.the-variants as misread
 use Rattle.commands.specs.declared.command.RoomChoice.{RoomChoice}
 use Rattle.commands.specs.declared.command.RoomKind.{RoomKind}
 use Rattle.commands.specs.declared.command.RoomKind.the-variants as kind
@@ -129,3 +132,9 @@ by-keyword (Some k) ws = arguments-of k ws
 
 abbrev pub command-of : List (List ℕ) → Option Asked
 command-of ws = by-keyword (keyword-of (word ws)) (drop 1 ws)
+
+-- a line that is no command is refused by its keyword, if it has one
+abbrev pub Names : Option Misread → Option Keyword → Type 0
+Names None k = Unit {0}
+Names (Some misread.NoSuchCommand) k = k ≡ None
+Names (Some (misread.Form keyword fault)) k = k ≡ Some keyword

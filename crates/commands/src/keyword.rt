@@ -1,6 +1,7 @@
 ghost use mathlib.Core.Path.{_≡_};
 ghost use Rattle.commands.specs.Commands.{keyword-of};
 use crate::word::spells;
+use std::fmt;
 
 // The first word of each command.
 #[derive(Clone, Copy)]
@@ -43,19 +44,23 @@ impl Keyword {
             None
         }
     }
+}
 
-    // How the command is written, for a person.
-    pub fn form(&self) -> &'static str {
+// How the command is written.
+pub impl fmt::Display for Keyword as KeywordDisplay {
+    fn fmt<W: fmt::Write>(&self, f: &mut fmt::Formatter<W>) -> fmt::Result {
         match self {
-            Keyword::Room => "room slot, room record HEX, room window B slot or room window B record HEX",
-            Keyword::Record => "record",
-            Keyword::Size => "size",
-            Keyword::Held => "held K",
-            Keyword::Look => "look C",
-            Keyword::Put => "put C V",
-            Keyword::Clear => "clear C",
-            Keyword::Take => "take K",
-            Keyword::Give => "give K",
+            Keyword::Room => f.write_str(
+                "room slot, room record HEX, room window B slot or room window B record HEX",
+            ),
+            Keyword::Record => f.write_str("record"),
+            Keyword::Size => f.write_str("size"),
+            Keyword::Held => f.write_str("held K"),
+            Keyword::Look => f.write_str("look C"),
+            Keyword::Put => f.write_str("put C V"),
+            Keyword::Clear => f.write_str("clear C"),
+            Keyword::Take => f.write_str("take K"),
+            Keyword::Give => f.write_str("give K"),
         }
     }
 }

@@ -1,9 +1,9 @@
 // Which line is which command.
-mod keyword;
-mod fault;
-mod word;
 mod command;
+mod fault;
+mod keyword;
 mod read;
+mod word;
 
 pub use command::Command;
 pub use command::Misread;
@@ -12,4 +12,5 @@ pub use command::RoomKind;
 pub use fault::Fault;
 pub use fault::FaultDisplay;
 pub use keyword::Keyword;
+pub use keyword::KeywordDisplay;
 pub use read::read_command;

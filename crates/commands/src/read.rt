@@ -1,10 +1,10 @@
 ghost use mathlib.Core.Path.{_≡_};
 ghost use lib.ListN.{drop};
 ghost use Rattle.std.specs.Options.{mapped};
-ghost use Rattle.std.specs.Results.{okPart};
+ghost use Rattle.std.specs.Results.{okPart, errPart};
 ghost use Rattle.console.specs.Words.{words-left, words-of};
 ghost use Rattle.console.specs.Numbers.{unsigned-of};
-ghost use Rattle.commands.specs.Commands.{asked, room-asked, kind-asked, word, base-of, window-of, only-number, only-put, only-kind, only-room, arguments-of, command-of};
+ghost use Rattle.commands.specs.Commands.{asked, room-asked, kind-asked, word, base-of, window-of, only-number, only-put, only-kind, only-room, keyword-of, arguments-of, command-of, Names};
 use crate::command::Command;
 use crate::command::Misread;
 use crate::command::RoomChoice;
@@ -22,7 +22,8 @@ use rooms::RoomCall;
 
 // The command that a line is, or why it is none.
 pub fn read_command(line: &[u8]) -> Result<Command<'_>, Misread>
-    ensures { λ r. ⌜ mapped asked (okPart r) ≡ command-of (words-of (now (line .entry))) ⌝ }
+    ensures command { λ r. ⌜ mapped asked (okPart r) ≡ command-of (words-of (now (line .entry))) ⌝ }
+    ensures names { λ r. ⌜ Names (errPart r) (keyword-of (word (words-of (now (line .entry))))) ⌝ }
 {
     let mut words = Words::new(line);
     let Some(keyword) = Keyword::of(next_word(&mut words)) else {
@@ -91,7 +92,10 @@ fn only_window<'a>(words: &mut Words<'a>) -> Result<RoomChoice<'a>, Fault>
     let base = next_base(words)?;
     let first = next_word(words);
     let kind = only_kind(first, words)?;
-    Ok(RoomChoice { base: Some(base), kind })
+    Ok(RoomChoice {
+        base: Some(base),
+        kind,
+    })
 }
 
 fn next_base(words: &mut Words<'_>) -> Result<u8, Fault>

@@ -51,5 +51,9 @@ pub(crate) fn next_signed(words: &mut Words<'_>) -> Result<i64, Fault>
 pub(crate) fn no_more(words: &Words<'_>) -> Result<(), Fault>
     ensures { λ r. ⌜ okPart r ≡ ended (Some tt) (words-left (now (words .entry))) ⌝ }
 {
-    if words.is_done() { Ok(()) } else { Err(Fault::WordsLeft) }
+    if words.is_done() {
+        Ok(())
+    } else {
+        Err(Fault::WordsLeft)
+    }
 }

@@ -1,4 +1,4 @@
-// Numbers in decimal digits: any count of leading zeros, and no `+`.
+// Numbers in decimal digits.
 ghost use mathlib.Core.Path.{_≡_};
 ghost use mathlib.Core.Bool.{cond};
 ghost use Prim.Native.Nat.{_-_, _^_};

@@ -18,7 +18,7 @@ pub fn passed_over(line: &[u8]) -> bool
 }
 
 // The first word of a line, and what follows the space after it, or None where there is no space.
-pub fn split_word(line: &[u8]) -> (&[u8], Option<&[u8]>)
+fn split_word(line: &[u8]) -> (&[u8], Option<&[u8]>)
     ensures { λ r. ⌜ Split (now (line .entry)) (now (r .0)) (mapped now (r .1)) ⌝ }
 {
     let (word, rest) = line.split_at(word_len(line));
@@ -72,13 +72,6 @@ impl<'a> Words<'a> {
         let (word, rest) = take_word(self.rest);
         self.rest = rest;
         word
-    }
-
-    // What follows the last word taken and its space, or None when the words are used up.
-    pub fn rest(&self) -> Option<&'a [u8]>
-        ensures { λ r. ⌜ mapped now r ≡ text-left (now (self .entry)) ⌝ }
-    {
-        self.rest
     }
 
     // Whether the words are used up.

@@ -17,5 +17,8 @@ fn latches_of_each_kind() -> Result<(), Fail> {
     check_eq(Window::<SlotRoom>::LATCHES, 8)?;
     check_eq(Window::<RecordRoom>::LATCHES, 4)?;
     check_eq(Window::<Window<RecordRoom>>::LATCHES, 4)?;
-    check_eq(Window::new(Window::new(SlotRoom::new(), 20), 10).latch_count(), 8)
+    check_eq(
+        Window::new(Window::new(SlotRoom::new(), 20), 10).latch_count(),
+        8,
+    )
 }

@@ -1,5 +1,5 @@
 // What rooms do on examples.
 #[cfg(test)]
-mod constants;
-#[cfg(test)]
 mod alike;
+#[cfg(test)]
+mod constants;

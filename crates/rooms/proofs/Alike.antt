@@ -7,9 +7,10 @@ use lib.Dec.{ltb}
 use lib.IntN.{ℤ}
 use Rattle.std.specs.declared.option.Option.{Option}
 use Rattle.std.specs.declared.option.Option.the-variants.{Some, None}
+use Rattle.std.specs.Orderings.{Decides}
 use Rattle.std.proofs.shelf.Lists.{length-set}
 use Rattle.rooms.specs.Meaning.{Meaning, size-of, latch-count, is-held, is-free, with-cell, with-latch}
-use Rattle.rooms.specs.Calls.{answer-to, after-call, answers-to, after-calls, LeftBy, Tells}
+use Rattle.rooms.specs.Calls.{answer-to, after-call, answers-to, after-calls, LeftBy}
 use Rattle.rooms.specs.declared.calls.RoomCall.{RoomCall}
 use Rattle.rooms.specs.declared.calls.RoomCall.the-variants.{Size, LatchCount, Get, Held, Put, Clear, Take, Give}
 use Rattle.rooms.specs.declared.calls.RoomAnswer.{RoomAnswer}
@@ -35,12 +36,12 @@ and-right false y e = let z : true ≡ false = sym e in cc
 and-both : (x y : Bool) → x ≡ true → y ≡ true → x && y ≡ true
 and-both x y e f = rw (e, f)
 
-pub kept-step : (a b a0 b0 a′ b′ : Meaning) (call : RoomCall) (rest calls : List RoomCall) (x y : RoomAnswer) (alike same : Bool) → x ≡ answer-to a call → y ≡ answer-to b call → a′ ≡ after-call a call → b′ ≡ after-call b call → Tells same (x ≡ y) → Kept a b a0 b0 (call ∷ rest) calls alike → Kept a′ b′ a0 b0 rest calls (alike && same)
+pub kept-step : (a b a0 b0 a′ b′ : Meaning) (call : RoomCall) (rest calls : List RoomCall) (x y : RoomAnswer) (alike same : Bool) → x ≡ answer-to a call → y ≡ answer-to b call → a′ ≡ after-call a call → b′ ≡ after-call b call → Decides same (x ≡ y) → Kept a b a0 b0 (call ∷ rest) calls alike → Kept a′ b′ a0 b0 rest calls (alike && same)
 kept-step a b a0 b0 a′ b′ call rest calls x y alike same ex ey ea eb tells k = record {
   a-left = rw ea (k .a-left);
   b-left = rw eb (k .b-left);
-  forth = λ ok e. k .forth (and-left alike same ok) (let head = tells .right (and-right alike same ok) in let tail : answers-to (after-call a call) rest ≡ answers-to (after-call b call) rest = ap (λ m. answers-to m rest) (sym ea) ∙ e ∙ ap (λ m. answers-to m rest) eb in cc);
-  back = λ e. let both = k .back e in let head : answer-to a call ≡ answer-to b call = cc in let tail : answers-to (after-call a call) rest ≡ answers-to (after-call b call) rest = cc in (and-both alike same (both .0) (tells .whole (ex ∙ head ∙ sym ey)), ap (λ m. answers-to m rest) ea ∙ tail ∙ sym (ap (λ m. answers-to m rest) eb));
+  forth = λ ok e. k .forth (and-left alike same ok) (let head = tells .0 (and-right alike same ok) in let tail : answers-to (after-call a call) rest ≡ answers-to (after-call b call) rest = ap (λ m. answers-to m rest) (sym ea) ∙ e ∙ ap (λ m. answers-to m rest) eb in cc);
+  back = λ e. let both = k .back e in let head : answer-to a call ≡ answer-to b call = cc in let tail : answers-to (after-call a call) rest ≡ answers-to (after-call b call) rest = cc in (and-both alike same (both .0) (tells .1 (ex ∙ head ∙ sym ey)), ap (λ m. answers-to m rest) ea ∙ tail ∙ sym (ap (λ m. answers-to m rest) eb));
 }
 
 -- no call changes how many cells or latches there are

@@ -17,6 +17,7 @@ abbrev pub changed : Result (Unit {0}) RoomRefusal → RoomAnswer
 changed (Ok x) = Accepted
 changed (Err why) = Refused why
 
+-- the answer to one call
 abbrev pub answer-to : Meaning → RoomCall → RoomAnswer
 answer-to m Size = Count (size-of m)
 answer-to m LatchCount = Count (latch-count m)
@@ -27,7 +28,7 @@ answer-to m (Clear c) = changed (cell-answer m c)
 answer-to m (Take k) = changed (take-answer m k)
 answer-to m (Give k) = changed (give-answer m k)
 
--- a question changes nothing
+-- the room after one call; a question changes nothing
 abbrev pub after-call : Meaning → RoomCall → Meaning
 after-call m Size = m
 after-call m LatchCount = m
@@ -43,6 +44,7 @@ abbrev pub answers-to : Meaning → List RoomCall → List RoomAnswer
 answers-to m [] = []
 answers-to m (call ∷ calls) = answer-to m call ∷ answers-to (after-call m call) calls
 
+-- the room after calls one after another
 abbrev pub after-calls : Meaning → List RoomCall → Meaning
 after-calls m [] = m
 after-calls m (call ∷ calls) = after-calls (after-call m call) calls
@@ -52,8 +54,3 @@ pub record LeftBy (calls : List RoomCall) (before after : Meaning) : Type 0 wher
   pub meant : after ≡ after-calls before calls
   pub sized : size-of after ≡ size-of before
   pub latched : latch-count after ≡ latch-count before
-
--- the test r tells whether P holds
-pub record Tells (r : Bool) (P : Type 0) : Type 0 where
-  pub right : r ≡ true → P
-  pub whole : P → r ≡ true

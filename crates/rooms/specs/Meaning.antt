@@ -17,6 +17,7 @@ pub record Meaning : Type 0 where
   pub cells : List (Option ℤ)
   pub latches : List Bool
 
+-- a room by its two parts
 abbrev pub room-of : List (Option ℤ) → List Bool → Meaning
 room-of cells latches = record { cells = cells; latches = latches }
 
@@ -24,27 +25,31 @@ room-of cells latches = record { cells = cells; latches = latches }
 abbrev pub empty : ℕ → ℕ → Meaning
 empty size latches = room-of (replicate size None) (replicate latches false)
 
+-- how many cells there are
 abbrev pub size-of : Meaning → ℕ
 size-of m = length (m .cells)
 
+-- how many latches there are
 abbrev pub latch-count : Meaning → ℕ
 latch-count m = length (m .latches)
 
--- what cell c holds: nothing where it is unfilled or not below the size
+-- what cell c holds: nothing in an unfilled cell and past the last one
 abbrev pub cell : Meaning → ℕ → Option ℤ
 cell m c = getD (m .cells) c None
 
 -- latch k is there and held
 unfoldable pub is-held : List Bool → ℕ → Bool
-is-held latches k = cond (ltb k (length latches)) (getD latches k false) false
+is-held latches k = getD latches k false
 
 -- latch k is there and free
 unfoldable pub is-free : List Bool → ℕ → Bool
 is-free latches k = cond (ltb k (length latches)) (not (getD latches k false)) false
 
+-- the room with one cell changed
 abbrev pub with-cell : Meaning → ℕ → Option ℤ → Meaning
 with-cell m c v = record { cells = set (m .cells) c v; latches = m .latches }
 
+-- the room with one latch changed
 abbrev pub with-latch : Meaning → ℕ → Bool → Meaning
 with-latch m k b = record { cells = m .cells; latches = set (m .latches) k b }
 
@@ -64,6 +69,7 @@ cell-after m c v = cond (ltb c (size-of m)) (with-cell m c v) m
 abbrev pub take-answer : Meaning → ℕ → Result (Unit {0}) RoomRefusal
 take-answer m k = answer (is-free (m .latches) k) LatchRefused
 
+-- after take
 abbrev pub take-after : Meaning → ℕ → Meaning
 take-after m k = cond (is-free (m .latches) k) (with-latch m k true) m
 
@@ -71,5 +77,6 @@ take-after m k = cond (is-free (m .latches) k) (with-latch m k true) m
 abbrev pub give-answer : Meaning → ℕ → Result (Unit {0}) RoomRefusal
 give-answer m k = answer (is-held (m .latches) k) LatchRefused
 
+-- after give
 abbrev pub give-after : Meaning → ℕ → Meaning
 give-after m k = cond (is-held (m .latches) k) (with-latch m k false) m

@@ -1,5 +1,5 @@
 -- The record format, 289 bytes: nine for each of 32 cells, its number's eight and a mark, and a last one for four latches.
-use mathlib.Core.Bool.{Bool, true, false, cond}
+use mathlib.Core.Bool.{Bool, false, cond}
 use mathlib.Core.List.{List, [], _∷_, _++_, map}
 use mathlib.Core.Path.{_≡_}
 use Prim.Native.Nat.{ℕ, _+_, _*_, _/_, _%_, _^_, _<_, _≤_}
@@ -52,6 +52,7 @@ mark-at bytes c = getD bytes (9 * c + 8) 0
 abbrev pub latch-byte : List ℕ → ℕ
 latch-byte bytes = getD bytes 288 0
 
+-- whether the lowest bit is 1
 abbrev pub odd : ℕ → Bool
 odd n = eqb (n % 2) 1
 
@@ -59,6 +60,7 @@ odd n = eqb (n % 2) 1
 abbrev pub latches-in : ℕ → List Bool
 latches-in b = odd b ∷ odd (b / 2) ∷ odd (b / 4) ∷ odd (b / 8) ∷ []
 
+-- a latch as a bit
 abbrev pub bit : Bool → ℕ
 bit on = cond on 1 0
 

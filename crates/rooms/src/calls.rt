@@ -1,6 +1,7 @@
 ghost use mathlib.Core.Bool.{true};
 ghost use mathlib.Core.Path.{_≡_};
-ghost use Rattle.rooms.specs.Calls.{answer-to, after-call, answers-to, changed, LeftBy, Tells};
+ghost use Rattle.std.specs.Orderings.{Decides};
+ghost use Rattle.rooms.specs.Calls.{answer-to, after-call, answers-to, changed, LeftBy};
 use crate::refusal::RoomRefusal;
 use crate::refusal::RoomRefusalPartialEq;
 use crate::room::Room;
@@ -55,14 +56,14 @@ pub fn answer<R: Room>(room: &mut R, call: RoomCall) -> RoomAnswer
 }
 
 fn same(a: RoomAnswer, b: RoomAnswer) -> bool
-    ensures { λ r. ⌜ Tells r (a ≡ b) ⌝ }
+    ensures { λ r. ⌜ Decides r (a ≡ b) ⌝ }
 {
     a == b
 }
 
 // Does the same calls on two rooms, and says whether they answered alike throughout.
 pub fn answer_alike<A: Room, B: Room>(a: &mut A, b: &mut B, calls: &[RoomCall]) -> bool
-    ensures answers { λ r. ⌜ Tells r (answers-to (A·Cells .meaning (now (a .entry))) (now (calls .entry)) ≡ answers-to (B·Cells .meaning (now (b .entry))) (now (calls .entry))) ⌝ }
+    ensures answers { λ r. ⌜ Decides r (answers-to (A·Cells .meaning (now (a .entry))) (now (calls .entry)) ≡ answers-to (B·Cells .meaning (now (b .entry))) (now (calls .entry))) ⌝ }
     ensures a_after { λ _. ⌜ LeftBy (now (calls .entry)) (A·Cells .meaning (now (a .entry))) (A·Cells .meaning (now (a .exit))) ⌝ }
     ensures b_after { λ _. ⌜ LeftBy (now (calls .entry)) (B·Cells .meaning (now (b .entry))) (B·Cells .meaning (now (b .exit))) ⌝ }
     ensures meaning_is_all { λ r. ⌜ (A·Cells .meaning (now (a .entry)) ≡ B·Cells .meaning (now (b .entry)) → (r ≡ true) × (A·Cells .meaning (now (a .exit)) ≡ B·Cells .meaning (now (b .exit)))) ⌝ }

@@ -1,12 +1,12 @@
 ghost use mathlib.Core.Bool.{true, false, cond};
 ghost use mathlib.Core.Path.{_≡_};
 ghost use Prim.Native.Nat.{_<_, _≤_};
-ghost use lib.ListN.{length, getD, set};
+ghost use lib.ListN.{length};
 ghost use Rattle.std.specs.Options.{Cases};
 ghost use Rattle.std.specs.declared.option.Option.the-variants.{Some, None};
 ghost use Rattle.std.specs.declared.result.Result.the-variants.{Ok, Err};
-ghost use Rattle.rooms.specs.Meaning.{Meaning, is-held, is-free, with-latch, cell-answer, cell-after, take-answer, take-after, give-answer, give-after};
-ghost use Rattle.rooms.specs.Record.{IsRecord, MarksOk, LowestWrongMark, Spoils, number-in, bytes-of, cell-in, nine-for, nine-at, with-nine, bytes-after, latch-byte, latches-in, byte-of, with-latch-bit, decoded};
+ghost use Rattle.rooms.specs.Meaning.{is-held, is-free, with-latch, cell-answer, cell-after, take-answer, take-after, give-answer, give-after};
+ghost use Rattle.rooms.specs.Record.{IsRecord, MarksOk, LowestWrongMark, Spoils, number-in, bytes-of, cell-in, nine-for, bytes-after, latch-byte, latches-in, byte-of, with-latch-bit, decoded};
 use crate::latch::is_free;
 use crate::latch::is_held;
 use crate::refusal::BadRecord;
@@ -16,11 +16,16 @@ use crate::room::Room;
 
 const CELLS: usize = 32;
 
+const LATCHES: usize = 4;
+
+// The bytes of a cell: eight of its number, and then its mark.
 const NINE: usize = 9;
 
-const LATCH_BYTE: usize = 288;
+const MARK: usize = 8;
 
-const LENGTH: usize = 289;
+const LATCH_BYTE: usize = CELLS * NINE;
+
+const LENGTH: usize = LATCH_BYTE + 1;
 
 // A room kept as the bytes of a record: 32 cells and 4 latches.
 #[derive(Drop)]
@@ -72,7 +77,7 @@ impl RecordRoom {
         Ok(())
     }
 
-    fn latches(&self) -> [bool; 4]
+    fn latches(&self) -> [bool; LATCHES]
         ensures { λ r. ⌜ r ≡ latches-in (latch-byte (now (self .entry) .bytes)) ⌝ }
     {
         latches_in(self.bytes[LATCH_BYTE])
@@ -96,7 +101,7 @@ fn wrong_mark(bytes: &[u8]) -> Option<usize>
     ensures { λ r. ⌜ Cases r (MarksOk (now (bytes .entry))) (λ c. LowestWrongMark (now (bytes .entry)) c) ⌝ }
 {
     for c in 0..CELLS {
-        if bytes[NINE * c + 8] > 1 {
+        if bytes[NINE * c + MARK] > 1 {
             return Some(c);
         }
     }
@@ -116,7 +121,7 @@ fn cell_in(nine: &[u8]) -> Option<i64>
     requires { ⌜ length (now nine) ≡ 9 ⌝ }
     ensures { λ r. ⌜ r ≡ cell-in (now (nine .entry)) ⌝ }
 {
-    if nine[8] == 1 {
+    if nine[MARK] == 1 {
         Some(number_in(nine))
     } else {
         None
@@ -150,7 +155,7 @@ fn nine_for(v: Option<i64>) -> [u8; NINE]
 }
 
 // Latch k is bit k.
-fn latches_in(byte: u8) -> [bool; 4]
+fn latches_in(byte: u8) -> [bool; LATCHES]
     ensures { λ r. ⌜ r ≡ latches-in byte ⌝ }
 {
     [
@@ -161,7 +166,7 @@ fn latches_in(byte: u8) -> [bool; 4]
     ]
 }
 
-fn byte_of(latches: [bool; 4]) -> u8
+fn byte_of(latches: [bool; LATCHES]) -> u8
     requires { ⌜ length latches ≡ 4 ⌝ }
     ensures value { λ r. ⌜ r ≡ byte-of latches ⌝ }
 {
@@ -202,7 +207,9 @@ pub impl Cells for RecordRoom as RecordCells {
 }
 
 pub impl Room for RecordRoom as RecordLatches {
-    const LATCHES: usize = 4;
+    const LATCHES: usize = LATCHES;
+
+    ghost latches = { 4 };
 
     fn latch_count(&self) -> usize {
         Self::LATCHES

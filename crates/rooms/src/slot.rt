@@ -1,6 +1,6 @@
 ghost use mathlib.Core.Path.{_≡_};
 ghost use lib.ListN.{length};
-ghost use Rattle.rooms.specs.Meaning.{Meaning, room-of, empty, cell-answer, cell-after};
+ghost use Rattle.rooms.specs.Meaning.{room-of, empty, cell-answer, cell-after};
 use crate::latch::is_free;
 use crate::latch::is_held;
 use crate::refusal::RoomRefusal;
@@ -9,11 +9,13 @@ use crate::room::Room;
 
 const CELLS: usize = 64;
 
+const LATCHES: usize = 8;
+
 // A room kept in memory: 64 cells and 8 latches.
 #[derive(Drop)]
 pub struct SlotRoom {
     cells: [Option<i64>; CELLS],
-    latches: [bool; 8],
+    latches: [bool; LATCHES],
     ghost sized: { (length cells ≡ 64) × (length latches ≡ 8) },
 }
 
@@ -24,7 +26,7 @@ impl SlotRoom {
     {
         SlotRoom {
             cells: [None; CELLS],
-            latches: [false; 8],
+            latches: [false; LATCHES],
         }
     }
 
@@ -62,7 +64,9 @@ pub impl Cells for SlotRoom as SlotCells {
 }
 
 pub impl Room for SlotRoom as SlotLatches {
-    const LATCHES: usize = 8;
+    const LATCHES: usize = LATCHES;
+
+    ghost latches = { 8 };
 
     fn latch_count(&self) -> usize {
         Self::LATCHES

@@ -2,7 +2,7 @@ ghost use mathlib.Core.Path.{_≡_};
 ghost use Prim.Native.Nat.{_+_, _-_, _<_, _≤_, min};
 ghost use Rattle.std.specs.Options.{Cases};
 ghost use Rattle.std.specs.declared.option.Option.the-variants.{Some, None};
-ghost use Rattle.rooms.specs.Meaning.{Meaning, cell-answer, cell-after, take-answer, take-after, give-answer, give-after};
+ghost use Rattle.rooms.specs.Meaning.{cell-answer, cell-after, take-answer, take-after, give-answer, give-after};
 ghost use Rattle.rooms.specs.Window.{seen, below-after};
 use crate::refusal::RoomRefusal;
 use crate::room::Cells;
@@ -101,6 +101,8 @@ pub impl<R: Room> Cells for Window<R> as WindowCells {
 
 pub impl<R: Room> Room for Window<R> as WindowLatches {
     const LATCHES: usize = R::LATCHES;
+
+    ghost latches = { R·Room .latches };
 
     fn latch_count(&self) -> usize {
         self.below.latch_count()

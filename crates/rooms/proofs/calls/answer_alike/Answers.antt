@@ -21,7 +21,7 @@ returns g c =
     let calls = c .args .calls .now in
     let k = subst (λ rest. Kept (g .A·Cells .meaning (at .a)) (g .B·Cells .meaning (at .b)) (g .A·Cells .meaning (c .args .a .now)) (g .B·Cells .meaning (c .args .b .now)) rest calls (at .alike)) (drop-all (at .call-index) calls (c .loop-call-test .left)) (at .inv) in
     record {
-      answers = record { right = λ ok. k .forth ok refl; whole = λ e. k .back e .0 };
+      answers = (λ ok. k .forth ok refl, λ e. k .back e .0);
       a-after = left-by _ _ _ (k .a-left);
       b-after = left-by _ _ _ (k .b-left);
       meaning-is-all = λ e. (k .back (ap (λ m. answers-to m calls) e) .0, k .a-left ∙ ap (λ m. after-calls m calls) e ∙ sym (k .b-left));

@@ -1,4 +1,5 @@
 use borrow.Author.Needs.{needs}
+use Rattle.std.proofs.shelf.Lists.{getD-past}
 use Rattle.rooms.specs.Meaning.{is-held}
 use Rattle.rooms.proofs.latch.is_held.Needs as need
 
@@ -8,4 +9,4 @@ returns-then-k-latches c = search needs
 
 pub returns-else-k-latches : need.returns-else-k-latches
 unfolding is-held
-returns-else-k-latches c = search needs
+returns-else-k-latches c = search (needs, getD-past)
