@@ -8,7 +8,7 @@ pub enum Fault {
     NotUnsigned,
     NotSigned,
     NotHex,
-    BaseTooLarge,
+    NotBase,
     NoSuchRoom,
 }
 
@@ -22,7 +22,7 @@ pub impl fmt::Display for Fault as FaultDisplay {
                 "a number from -9223372036854775808 to 9223372036854775807 is wanted",
             ),
             Fault::NotHex => f.write_str("HEX is two digits for each byte, 0 to 9 and a to f"),
-            Fault::BaseTooLarge => f.write_str("a window's base is a number from 0 to 255"),
+            Fault::NotBase => f.write_str("a window's base is a number from 0 to 255"),
             Fault::NoSuchRoom => f.write_str("there is no such room"),
         }
     }

@@ -102,10 +102,9 @@ fn next_base(words: &mut Words<'_>) -> Result<u8, Fault>
     ensures value { λ r. ⌜ okPart r ≡ base-of (unsigned-of (word (words-left (now (words .entry))))) ⌝ }
     ensures rest { λ _. ⌜ words-left (now (words .exit)) ≡ drop 1 (words-left (now (words .entry))) ⌝ }
 {
-    let n = next_number(words)?;
-    match u8::try_from(n) {
-        Ok(base) => Ok(base),
-        Err(_) => Err(Fault::BaseTooLarge),
+    match next_number(words) {
+        Ok(n) if n <= 255 => Ok(n as u8),
+        _ => Err(Fault::NotBase),
     }
 }
 
