@@ -1,11 +1,10 @@
 ghost use mathlib.Core.Path.{_≡_};
-ghost use Rattle.std.specs.Options.{mapped};
 ghost use Rattle.std.specs.declared.option.Option.the-variants.{Some};
 ghost use Rattle.console.specs.Words.{words-of};
 ghost use Rattle.commands.specs.Commands.{command-of, room-asked};
 ghost use Rattle.rooms.specs.Meaning.{empty};
 ghost use Rattle.office.specs.Replies.{Does, class-of, tallied};
-ghost use Rattle.office.specs.Rooms.{meaning-of, record-of};
+ghost use Rattle.office.specs.Rooms.{meaning-of};
 use crate::reply::Reply;
 use crate::room::OfficeRoom;
 use commands::Command;

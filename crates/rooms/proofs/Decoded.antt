@@ -1,8 +1,8 @@
 -- From the bytes of a record to its meaning.
-use mathlib.Core.Bool.{Bool, true, false, cond}
-use mathlib.Core.List.{List, [], _∷_, _++_, map}
-use mathlib.Core.Logic.{_≢_, _⊎_, inl, inr}
-use mathlib.Core.Path.{_≡_, refl, sym, _∙_, ap, subst}
+use mathlib.Core.Bool.{Bool, true, false}
+use mathlib.Core.List.{List, [], _∷_}
+use mathlib.Core.Logic.{inl, inr}
+use mathlib.Core.Path.{_≡_, sym, _∙_, ap, subst}
 use Prim.Native.Nat.{ℕ, _+_, _*_, _/_, _%_, _^_, _<_, _≤_}
 use native.Mathlib.Omega.{arith}
 use lib.Dec.{ltb}
@@ -11,7 +11,6 @@ use lib.ListN.{length, getD, set}
 use mir.Syntax.{w64}
 use mir.Val.{toZ, ofZ, SFits}
 use mir.Facts.{toZ-ofZ}
-use Rattle.std.specs.Iters.{counting}
 use Rattle.std.specs.declared.option.Option.{Option}
 use Rattle.std.specs.declared.option.Option.the-variants.{Some, None}
 use Rattle.std.specs.declared.result.Result.{Result}
@@ -19,7 +18,7 @@ use Rattle.std.specs.declared.result.Result.the-variants.{Ok, Err}
 use Rattle.std.proofs.shelf.Counted.{fill-by-all, getD-map-counting, length-map-counting}
 use Rattle.std.proofs.shelf.Lists.{getD-past, getD-set-same, getD-set-other, length-set}
 use Rattle.std.proofs.shelf.Ways.{tells, eqb-tells}
-use Rattle.rooms.specs.Meaning.{Meaning, cell, size-of, with-cell, cell-answer, cell-after}
+use Rattle.rooms.specs.Meaning.{cell, size-of, with-cell, cell-answer, cell-after}
 use Rattle.rooms.specs.Record.{cell-in, nine-for, nine-at, with-nine, bytes-after, latch-byte, odd, latches-in, bit, byte-of, cells-in, decoded}
 use Rattle.rooms.specs.declared.refusal.RoomRefusal.{RoomRefusal}
 use Rattle.rooms.specs.declared.refusal.RoomRefusal.the-variants.{NoSuchCell}

@@ -1,12 +1,11 @@
 -- The part of a room that a window shows, after a change below.
 use mathlib.Core.Bool.{Bool, true, false, cond}
-use mathlib.Core.List.{List}
 use mathlib.Core.Path.{_≡_, refl, sym, _∙_, ap}
 use Prim.Native.Nat.{ℕ, _<_, _≤_, _-_, _+_, min}
 use native.Mathlib.Omega.{arith}
 use lib.Dec.{ltb}
 use lib.IntN.{ℤ}
-use lib.ListN.{length, getD, set, take, drop, length-take, length-drop}
+use lib.ListN.{drop, length-take, length-drop}
 use lib.Seq.{take-set-lt, drop-set-add, getD-take, getD-drop}
 use Rattle.std.specs.declared.option.Option.{Option}
 use Rattle.std.specs.declared.option.Option.the-variants.{None}
@@ -14,7 +13,7 @@ use Rattle.std.specs.declared.result.Result.{Result}
 use Rattle.std.specs.declared.result.Result.the-variants.{Err}
 use Rattle.std.proofs.shelf.Lists.{getD-past}
 use Rattle.std.proofs.shelf.Ways.{tells}
-use Rattle.rooms.specs.Meaning.{Meaning, size-of, cell, with-cell, with-latch, answer, cell-answer, cell-after, take-after, is-free}
+use Rattle.rooms.specs.Meaning.{Meaning, size-of, cell, with-cell, with-latch, accepted-if, cell-answer, cell-after, take-after, is-free}
 use Rattle.rooms.specs.Window.{seen, below-after}
 use Rattle.rooms.specs.declared.refusal.RoomRefusal.{RoomRefusal}
 use Rattle.rooms.specs.declared.refusal.RoomRefusal.the-variants.{NoSuchCell}
@@ -56,7 +55,7 @@ passed-on b m c at v r new h e answered left =
     let here : ltb c 32 ≡ true = grind (arith, tells) in
     let new-is : new ≡ cell-after m (b + c) v = left ∙ ap (λ i. cell-after m i v) e in
     record {
-      answer = answered ∙ ap (λ i. cell-answer m i) e ∙ ap (λ ok. answer ok NoSuchCell) (seen-there b m c h);
+      answer = answered ∙ ap (λ i. cell-answer m i) e ∙ ap (λ ok. accepted-if ok NoSuchCell) (seen-there b m c h);
       after = ap (seen b) new-is ∙ seen-after b m c v h;
       below = new-is ∙ ap (λ ok. cond ok (cell-after m (b + c) v) m) (sym here);
     }

@@ -1,18 +1,17 @@
 -- What nine new bytes leave of a record: its length, every other cell's nine and its last byte.
-use mathlib.Core.Bool.{Bool, true, false}
-use mathlib.Core.List.{List, [], _∷_, _++_, map}
-use mathlib.Core.Logic.{_≢_, _⊎_, inl, inr}
-use mathlib.Core.Path.{_≡_, refl, sym, _∙_, ap, subst}
+use mathlib.Core.List.{List, _++_}
+use mathlib.Core.Logic.{_≢_}
+use mathlib.Core.Path.{_≡_, refl, sym, _∙_, ap}
 use Prim.Native.Nat.{ℕ, _+_, _*_, _-_, _<_, _≤_}
 use native.Mathlib.Omega.{arith}
 use borrow.Author.Needs.{needs}
 use borrow.Rule.Slice.PartMut.{putMid, post-is}
 use lib.IntN.{ℤ}
-use lib.ListN.{length, getD, set, take, drop}
-use Rattle.std.proofs.shelf.Lists.{places, same-lists, take-at, drop-at, length-take-le, length-append, length-drop}
+use lib.ListN.{length, getD, take, drop}
+use Rattle.std.proofs.shelf.Lists.{places, same-lists, take-at, drop-at}
 use Rattle.std.specs.declared.option.Option.{Option}
 use Rattle.std.specs.declared.option.Option.the-variants.{Some, None}
-use Rattle.rooms.specs.Record.{nine-for, with-nine, nine-at, mark-at, latch-byte, MarksOk}
+use Rattle.rooms.specs.Record.{nine-for, with-nine, nine-at, latch-byte, MarksOk}
 
 -- a part of a list, in the middle and apart from a change
 part-here : {X : Type 0} (xs ys zs : List X) (i n : ℕ) → length xs ≡ i → length ys ≡ n → take n (drop i (xs ++ (ys ++ zs))) ≡ ys

@@ -1,5 +1,4 @@
 -- Room calls as values: what a room answers to one call or to a list of them, by its meaning alone.
-use mathlib.Core.Bool.{Bool, true}
 use mathlib.Core.List.{List, [], _∷_}
 use mathlib.Core.Path.{_≡_}
 use Rattle.std.specs.declared.option.Option.the-variants.{Some, None}
@@ -12,10 +11,10 @@ use Rattle.rooms.specs.declared.calls.RoomCall.the-variants.{Size, LatchCount,
 use Rattle.rooms.specs.declared.calls.RoomAnswer.{RoomAnswer}
 use Rattle.rooms.specs.declared.calls.RoomAnswer.the-variants.{Count, Cell, IsHeld, Accepted, Refused}
 
--- what a call that may be refused answers
-abbrev pub changed : Result (Unit {0}) RoomRefusal → RoomAnswer
-changed (Ok x) = Accepted
-changed (Err why) = Refused why
+-- the answer of a call that may be refused
+abbrev pub answered : Result (Unit {0}) RoomRefusal → RoomAnswer
+answered (Ok x) = Accepted
+answered (Err why) = Refused why
 
 -- the answer to one call
 abbrev pub answer-to : Meaning → RoomCall → RoomAnswer
@@ -23,10 +22,10 @@ answer-to m Size = Count (size-of m)
 answer-to m LatchCount = Count (latch-count m)
 answer-to m (Get c) = Cell (cell m c)
 answer-to m (Held k) = IsHeld (is-held (m .latches) k)
-answer-to m (Put c n) = changed (cell-answer m c)
-answer-to m (Clear c) = changed (cell-answer m c)
-answer-to m (Take k) = changed (take-answer m k)
-answer-to m (Give k) = changed (give-answer m k)
+answer-to m (Put c n) = answered (cell-answer m c)
+answer-to m (Clear c) = answered (cell-answer m c)
+answer-to m (Take k) = answered (take-answer m k)
+answer-to m (Give k) = answered (give-answer m k)
 
 -- the room after one call; a question changes nothing
 abbrev pub after-call : Meaning → RoomCall → Meaning

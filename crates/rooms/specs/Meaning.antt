@@ -54,12 +54,12 @@ abbrev pub with-latch : Meaning → ℕ → Bool → Meaning
 with-latch m k b = record { cells = m .cells; latches = set (m .latches) k b }
 
 -- accepted, or refused for the reason given
-abbrev pub answer : Bool → RoomRefusal → Result (Unit {0}) RoomRefusal
-answer ok why = cond ok (Ok tt) (Err why)
+abbrev pub accepted-if : Bool → RoomRefusal → Result (Unit {0}) RoomRefusal
+accepted-if ok why = cond ok (Ok tt) (Err why)
 
 -- put and clear: the cell has to be below the size
 abbrev pub cell-answer : Meaning → ℕ → Result (Unit {0}) RoomRefusal
-cell-answer m c = answer (ltb c (size-of m)) NoSuchCell
+cell-answer m c = accepted-if (ltb c (size-of m)) NoSuchCell
 
 -- after put (Some n) or clear (None)
 abbrev pub cell-after : Meaning → ℕ → Option ℤ → Meaning
@@ -67,7 +67,7 @@ cell-after m c v = cond (ltb c (size-of m)) (with-cell m c v) m
 
 -- take: the latch has to be there and free
 abbrev pub take-answer : Meaning → ℕ → Result (Unit {0}) RoomRefusal
-take-answer m k = answer (is-free (m .latches) k) LatchRefused
+take-answer m k = accepted-if (is-free (m .latches) k) LatchRefused
 
 -- after take
 abbrev pub take-after : Meaning → ℕ → Meaning
@@ -75,7 +75,7 @@ take-after m k = cond (is-free (m .latches) k) (with-latch m k true) m
 
 -- give: the latch has to be there and held
 abbrev pub give-answer : Meaning → ℕ → Result (Unit {0}) RoomRefusal
-give-answer m k = answer (is-held (m .latches) k) LatchRefused
+give-answer m k = accepted-if (is-held (m .latches) k) LatchRefused
 
 -- after give
 abbrev pub give-after : Meaning → ℕ → Meaning

@@ -1,7 +1,7 @@
 ghost use mathlib.Core.Bool.{true};
 ghost use mathlib.Core.Path.{_≡_};
 ghost use Rattle.std.specs.Orderings.{Decides};
-ghost use Rattle.rooms.specs.Calls.{answer-to, after-call, answers-to, changed, LeftBy};
+ghost use Rattle.rooms.specs.Calls.{answer-to, after-call, answers-to, answered, LeftBy};
 use crate::refusal::RoomRefusal;
 use crate::refusal::RoomRefusalPartialEq;
 use crate::room::Room;
@@ -29,8 +29,8 @@ pub enum RoomAnswer {
     Refused(RoomRefusal),
 }
 
-fn changed(result: Result<(), RoomRefusal>) -> RoomAnswer
-    ensures { λ r. ⌜ r ≡ changed result ⌝ }
+fn answered(result: Result<(), RoomRefusal>) -> RoomAnswer
+    ensures { λ r. ⌜ r ≡ answered result ⌝ }
 {
     match result {
         Ok(()) => RoomAnswer::Accepted,
@@ -48,10 +48,10 @@ pub fn answer<R: Room>(room: &mut R, call: RoomCall) -> RoomAnswer
         RoomCall::LatchCount => RoomAnswer::Count(room.latch_count()),
         RoomCall::Get(c) => RoomAnswer::Cell(room.get(c)),
         RoomCall::Held(k) => RoomAnswer::IsHeld(room.held(k)),
-        RoomCall::Put(c, n) => changed(room.put(c, n)),
-        RoomCall::Clear(c) => changed(room.clear(c)),
-        RoomCall::Take(k) => changed(room.take(k)),
-        RoomCall::Give(k) => changed(room.give(k)),
+        RoomCall::Put(c, n) => answered(room.put(c, n)),
+        RoomCall::Clear(c) => answered(room.clear(c)),
+        RoomCall::Take(k) => answered(room.take(k)),
+        RoomCall::Give(k) => answered(room.give(k)),
     }
 }
 

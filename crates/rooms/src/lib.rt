@@ -1,4 +1,5 @@
 mod calls;
+mod format;
 mod latch;
 mod record;
 mod refusal;

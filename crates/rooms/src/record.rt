@@ -2,30 +2,26 @@ ghost use mathlib.Core.Bool.{true, false, cond};
 ghost use mathlib.Core.Path.{_≡_};
 ghost use Prim.Native.Nat.{_<_, _≤_};
 ghost use lib.ListN.{length};
-ghost use Rattle.std.specs.Options.{Cases};
 ghost use Rattle.std.specs.declared.option.Option.the-variants.{Some, None};
 ghost use Rattle.std.specs.declared.result.Result.the-variants.{Ok, Err};
 ghost use Rattle.rooms.specs.Meaning.{is-held, is-free, with-latch, cell-answer, cell-after, take-answer, take-after, give-answer, give-after};
-ghost use Rattle.rooms.specs.Record.{IsRecord, MarksOk, LowestWrongMark, Spoils, number-in, bytes-of, cell-in, nine-for, bytes-after, latch-byte, latches-in, byte-of, with-latch-bit, decoded};
+ghost use Rattle.rooms.specs.Record.{IsRecord, MarksOk, Spoils, bytes-after, latch-byte, latches-in, with-latch-bit, decoded};
+use crate::format::CELL_BYTES;
+use crate::format::CELLS;
+use crate::format::LATCH_BYTE;
+use crate::format::LATCHES;
+use crate::format::LENGTH;
+use crate::format::byte_of;
+use crate::format::cell_in;
+use crate::format::latches_in;
+use crate::format::nine_for;
+use crate::format::wrong_mark;
 use crate::latch::is_free;
 use crate::latch::is_held;
 use crate::refusal::BadRecord;
 use crate::refusal::RoomRefusal;
 use crate::room::Cells;
 use crate::room::Room;
-
-const CELLS: usize = 32;
-
-const LATCHES: usize = 4;
-
-// The bytes of a cell: eight of its number, and then its mark.
-const NINE: usize = 9;
-
-const MARK: usize = 8;
-
-const LATCH_BYTE: usize = CELLS * NINE;
-
-const LENGTH: usize = LATCH_BYTE + 1;
 
 // A room kept as the bytes of a record: 32 cells and 4 latches.
 #[derive(Drop)]
@@ -73,7 +69,8 @@ impl RecordRoom {
             return Err(RoomRefusal::NoSuchCell);
         }
         let nine = nine_for(v);
-        self.bytes[NINE * c..NINE * c + NINE].copy_from_slice(&nine);
+        self.bytes[CELL_BYTES * c..CELL_BYTES * c + CELL_BYTES]
+            .copy_from_slice(&nine);
         Ok(())
     }
 
@@ -95,85 +92,6 @@ impl RecordRoom {
     }
 }
 
-// The lowest cell whose mark is above 1.
-fn wrong_mark(bytes: &[u8]) -> Option<usize>
-    requires { ⌜ length (now bytes) ≡ 289 ⌝ }
-    ensures { λ r. ⌜ Cases r (MarksOk (now (bytes .entry))) (λ c. LowestWrongMark (now (bytes .entry)) c) ⌝ }
-{
-    for c in 0..CELLS {
-        if bytes[NINE * c + MARK] > 1 {
-            return Some(c);
-        }
-    }
-    None
-}
-
-// The number in the first eight bytes.
-fn number_in(b: &[u8]) -> i64
-    requires { ⌜ length (now b) ≡ 9 ⌝ }
-    ensures { λ r. ⌜ r ≡ number-in (now (b .entry)) ⌝ }
-{
-    i64::from_be_bytes([b[0], b[1], b[2], b[3], b[4], b[5], b[6], b[7]])
-}
-
-// What nine bytes say of a cell.
-fn cell_in(nine: &[u8]) -> Option<i64>
-    requires { ⌜ length (now nine) ≡ 9 ⌝ }
-    ensures { λ r. ⌜ r ≡ cell-in (now (nine .entry)) ⌝ }
-{
-    if nine[MARK] == 1 {
-        Some(number_in(nine))
-    } else {
-        None
-    }
-}
-
-fn number_bytes(n: i64) -> [u8; 8]
-    ensures { λ r. ⌜ r ≡ bytes-of n ⌝ }
-{
-    n.to_be_bytes()
-}
-
-// The nine bytes of a cell that holds a number.
-fn filled_nine(n: i64) -> [u8; NINE]
-    ensures value { λ r. ⌜ r ≡ nine-for (Some n) ⌝ }
-    ensures says { λ r. ⌜ cell-in r ≡ Some n ⌝ }
-{
-    let [a, b, c, d, e, f, g, h] = number_bytes(n);
-    [a, b, c, d, e, f, g, h, 1]
-}
-
-// The nine bytes of a cell, which say what it holds.
-fn nine_for(v: Option<i64>) -> [u8; NINE]
-    ensures value { λ r. ⌜ r ≡ nine-for v ⌝ }
-    ensures says { λ r. ⌜ cell-in r ≡ v ⌝ }
-{
-    match v {
-        Some(n) => filled_nine(n),
-        None => [0; NINE],
-    }
-}
-
-// Latch k is bit k.
-fn latches_in(byte: u8) -> [bool; LATCHES]
-    ensures { λ r. ⌜ r ≡ latches-in byte ⌝ }
-{
-    [
-        byte % 2 == 1,
-        byte / 2 % 2 == 1,
-        byte / 4 % 2 == 1,
-        byte / 8 % 2 == 1,
-    ]
-}
-
-fn byte_of(latches: [bool; LATCHES]) -> u8
-    requires { ⌜ length latches ≡ 4 ⌝ }
-    ensures value { λ r. ⌜ r ≡ byte-of latches ⌝ }
-{
-    let [a, b, c, d] = latches;
-    u8::from(a) + 2 * u8::from(b) + 4 * u8::from(c) + 8 * u8::from(d)
-}
-
 pub impl Cells for RecordRoom as RecordCells {
     ghost meaning = { λ s. decoded (s .bytes) };
 
@@ -183,7 +101,7 @@ pub impl Cells for RecordRoom as RecordCells {
 
     fn get(&self, c: usize) -> Option<i64> {
         if c < CELLS {
-            cell_in(&self.bytes[NINE * c..NINE * c + NINE])
+            cell_in(&self.bytes[CELL_BYTES * c..CELL_BYTES * c + CELL_BYTES])
         } else {
             None
         }

@@ -1,10 +1,10 @@
-use mathlib.Core.Path.{_≡_, sym, _∙_, ap}
+use mathlib.Core.Path.{_≡_, _∙_, ap}
 use mathlib.Core.Bool.{Bool}
 use mathlib.Core.List.{List}
-use lib.ListN.{set, getD}
+use lib.ListN.{set}
 use Rattle.std.proofs.shelf.Lists.{length-set}
 use Rattle.rooms.specs.Record.{byte-of, latches-in, latch-byte, cells-in, decoded}
-use Rattle.rooms.specs.Meaning.{Meaning, with-latch}
+use Rattle.rooms.specs.Meaning.{Meaning}
 use Rattle.rooms.proofs.Decoded.{decoded-latched, latches-back}
 use Rattle.rooms.proofs.record.RecordRoom.set_latch.Needs as need
 

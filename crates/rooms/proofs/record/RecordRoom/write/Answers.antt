@@ -3,7 +3,6 @@ use Prim.Native.Nat.{_+_, _*_, _-_, _≤_}
 use borrow.Rule.Slice.PartMut.{putMid}
 use lib.ListN.{length}
 use Rattle.rooms.specs.Record.{nine-for, cell-in, with-nine, MarksOk, latch-byte, decoded}
-use Rattle.rooms.specs.Meaning.{cell-after}
 use Rattle.rooms.proofs.Written.{nine-long, nine-mark, copied, with-nine-long, with-nine-marks, with-nine-last}
 use Rattle.rooms.proofs.Decoded.{refused, accepted}
 use Rattle.rooms.proofs.record.RecordRoom.write.Needs as need

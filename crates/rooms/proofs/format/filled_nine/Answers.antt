@@ -6,7 +6,7 @@ use mir.Val.{ofZ}
 use mir.Facts.{toZ-ofZ}
 use Rattle.rooms.specs.Record.{bytes-of}
 use Rattle.rooms.proofs.Decoded.{said-again}
-use Rattle.rooms.proofs.record.filled_nine.Needs as need
+use Rattle.rooms.proofs.format.filled_nine.Needs as need
 
 pub returns : need.returns
 returns c =
