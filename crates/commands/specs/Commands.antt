@@ -133,7 +133,7 @@ by-keyword (Some k) ws = arguments-of k ws
 abbrev pub command-of : List (List ℕ) → Option Asked
 command-of ws = by-keyword (keyword-of (word ws)) (drop 1 ws)
 
--- a line that is no command is refused by its keyword, if it has one
+-- an error names the keyword of its line, if that has one
 abbrev pub Names : Option Misread → Option Keyword → Type 0
 Names None k = Unit {0}
 Names (Some misread.NoSuchCommand) k = k ≡ None

@@ -41,10 +41,7 @@ pub(crate) fn next_signed(words: &mut Words<'_>) -> Result<i64, Fault>
     ensures value { λ r. ⌜ okPart r ≡ signed-of (word (words-left (now (words .entry)))) ⌝ }
     ensures rest { λ _. ⌜ words-left (now (words .exit)) ≡ drop 1 (words-left (now (words .entry))) ⌝ }
 {
-    match signed(next_word(words)) {
-        Some(n) => Ok(n),
-        None => Err(Fault::NotSigned),
-    }
+    signed(next_word(words)).ok_or(Fault::NotSigned)
 }
 
 // No word may be left.

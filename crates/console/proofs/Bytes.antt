@@ -4,7 +4,7 @@ use mathlib.Core.Path.{_≡_, refl, sym, ap, _∙_}
 use mathlib.Core.Bool.{true}
 use mathlib.Core.List.{List, [], _∷_, _++_, append-assoc}
 use native.Mathlib.Omega.{arith}
-use lib.ListN.{length, getD, take, drop}
+use lib.ListN.{length, getD, set, take, drop}
 use lib.Utf8.{encode}
 use Rattle.std.specs.Options.{isSome, mapped}
 use Rattle.std.specs.declared.option.Option.{Option}
@@ -13,9 +13,9 @@ use Rattle.std.specs.Written.{Put}
 use Rattle.std.specs.declared.fmt.Formatter.{Formatter}
 use Rattle.std.proofs.Writes.{put-is, put-more}
 use Rattle.std.proofs.shelf.Ascii.{encode-ascii}
-use Rattle.std.proofs.shelf.Lists.{take-more, joined-more}
+use Rattle.std.proofs.shelf.Lists.{take-more, take-more-set, take-all, drop-all, drop-drop, getD-drop, length-drop, append-nil, joined-more}
 use Rattle.std.proofs.shelf.Ways.{tells}
-use Rattle.console.specs.Hex.{digit-value, byte-of, before, bytes-of, digit-of, hex-of, Reads-back}
+use Rattle.console.specs.Hex.{digit-value, byte-of, before, bytes-of, digit-of, hex-of, Unfit, Reads-back}
 
 -- what was read, before what is left
 abbrev pub onto : List ℕ → List ℕ → Option (List ℕ)
@@ -30,6 +30,67 @@ one-more done [] b h e = absurd (omega arith)
 one-more done (high ∷ []) b h e = absurd (omega arith)
 one-more done (high ∷ low ∷ word) b h e =
     one-before done b (bytes-of word) ∙ ap (λ x. mapped (λ bs. done ++ bs) (before x (bytes-of word))) e
+
+-- two digits a byte
+before-long : (word : List ℕ) (b : Option ℕ) (o : Option (List ℕ)) (bytes : List ℕ) → ((bs : List ℕ) → o ≡ Some bs → length word ≡ 2 * length bs) → before b o ≡ Some bytes → 2 + length word ≡ 2 * length bytes
+before-long word None o bytes h e = let z : _≡_ {A = ℕ} 0 1 = cc in absurd (omega arith)
+before-long word (Some b) None bytes h e = let z : _≡_ {A = ℕ} 0 1 = cc in absurd (omega arith)
+before-long word (Some b) (Some bs) bytes h e =
+    let whole : b ∷ bs ≡ bytes = cc in
+    omega (arith, h bs refl, ap length whole)
+
+pub long : (word bytes : List ℕ) → bytes-of word ≡ Some bytes → length word ≡ 2 * length bytes
+long [] bytes e = let nil : [] ≡ bytes = cc in omega (arith, ap length nil)
+long (high ∷ []) bytes e = let z : _≡_ {A = ℕ} 0 1 = cc in absurd (omega arith)
+long (high ∷ low ∷ word) bytes e =
+    omega (arith, before-long word (byte-of (digit-value high) (digit-value low)) (bytes-of word) bytes (λ bs d. long word bs d) e)
+
+pub unfit : (word : List ℕ) (n : ℕ) → (length word ≡ 2 * n → ⊥) → Unfit word n
+unfit word n h bytes e l = h (omega (arith, long word bytes e))
+
+-- a byte that no two digits write spoils the whole
+pub no-byte : (word : List ℕ) → 2 ≤ length word → None ≡ byte-of (digit-value (getD word 0 0)) (digit-value (getD word 1 0)) → bytes-of word ≡ None
+no-byte [] h e = absurd (omega arith)
+no-byte (high ∷ []) h e = absurd (omega arith)
+no-byte (high ∷ low ∷ word) h e = ap (λ x. before x (bytes-of word)) (sym e)
+
+-- bytes filled in one by one: the first i of `out` are written by the digits before the place 2 * i
+none-done : (o : Option (List ℕ)) → mapped (λ bs. [] ++ bs) o ≡ o
+none-done None = refl
+none-done (Some bs) = refl
+
+pub fill-first : (word : List ℕ) → onto [] word ≡ bytes-of word
+fill-first word = none-done (bytes-of word)
+
+module _ (word out : List ℕ) (i : ℕ) (fits : length word ≡ 2 * length out) (inv : onto (take i out) (drop (2 * i) word) ≡ bytes-of word) where
+  high-at : getD (drop (2 * i) word) 0 0 ≡ getD word (2 * i) 0
+  high-at = getD-drop (2 * i) word 0 0 ∙ ap (λ n. getD word n 0) (omega arith)
+
+  low-at : getD (drop (2 * i) word) 1 0 ≡ getD word (2 * i + 1) 0
+  low-at = getD-drop (2 * i) word 1 0
+
+  two-left : i < length out → 2 ≤ length (drop (2 * i) word)
+  two-left h = simp length-drop (omega arith)
+
+  pub fill-more : (b : ℕ) → i < length out → Some b ≡ byte-of (digit-value (getD word (2 * i) 0)) (digit-value (getD word (2 * i + 1) 0)) → onto (take (i + 1) (set out i b)) (drop (2 * (i + 1)) word) ≡ bytes-of word
+  fill-more b h e =
+      let front = take-more-set out i b h in
+      let back : drop (2 * (i + 1)) word ≡ drop 2 (drop (2 * i) word) = sym (drop-drop 2 (2 * i) word ∙ ap (λ n. drop n word) (omega arith)) in
+      let more = one-more (take i out) (drop (2 * i) word) b (two-left h) (rw (high-at, low-at) e) in
+      rw (front, back) (more ∙ inv)
+
+  pub fill-spoiled : i < length out → None ≡ byte-of (digit-value (getD word (2 * i) 0)) (digit-value (getD word (2 * i + 1) 0)) → (n : ℕ) → Unfit word n
+  fill-spoiled h e n bytes some l =
+      let none = no-byte (drop (2 * i) word) (two-left h) (rw (high-at, low-at) e) in
+      let whole : bytes-of word ≡ None = sym inv ∙ ap (mapped (λ bs. take i out ++ bs)) none in
+      let z : _≡_ {A = ℕ} 0 1 = cc in omega arith
+
+  pub fill-all : length out ≤ i → bytes-of word ≡ Some out
+  fill-all h =
+      let front = take-all i out h in
+      let back = drop-all (2 * i) word (omega arith) in
+      let done : onto (take i out) (drop (2 * i) word) ≡ Some out = rw (front, back) (ap Some (append-nil out)) in
+      sym inv ∙ done
 
 kept-some : (b : ℕ) (o : Option (List ℕ)) → isSome o ≡ isSome (before (Some b) o)
 kept-some b None = refl

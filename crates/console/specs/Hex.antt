@@ -4,6 +4,7 @@ use mathlib.Core.Path.{_≡_}
 use mathlib.Core.Bool.{cond, _&&_}
 use mathlib.Core.List.{List, [], _∷_}
 use lib.Dec.{leb, ltb}
+use lib.ListN.{length}
 use Rattle.std.specs.declared.option.Option.{Option}
 use Rattle.std.specs.declared.option.Option.the-variants.{Some, None}
 use Rattle.std.specs.Joined.{joined}
@@ -30,6 +31,10 @@ abbrev pub bytes-of : List ℕ → Option (List ℕ)
 bytes-of [] = Some []
 bytes-of (high ∷ []) = None
 bytes-of (high ∷ low ∷ word) = before (byte-of (digit-value high) (digit-value low)) (bytes-of word)
+
+-- a word does not write n bytes
+abbrev pub Unfit : List ℕ → ℕ → Type 0
+Unfit word n = (bytes : List ℕ) → bytes-of word ≡ Some bytes → length bytes ≡ n → ⊥
 
 -- the digit of a value below 16
 abbrev pub digit-of : ℕ → ℕ

@@ -1,34 +1,28 @@
 // Bytes in hexadecimal: two digits in small letters for each byte, the high one first.
 ghost use mathlib.Core.Path.{_≡_};
 ghost use Prim.Native.Nat.{_<_};
-ghost use Rattle.std.specs.Of.Vec.{vec-items};
-ghost use Rattle.std.specs.Options.{isSome, mapped};
-ghost use Rattle.std.specs.Vec.{made};
+ghost use lib.ListN.{length};
+ghost use Rattle.std.specs.Options.{isSome};
+ghost use Rattle.std.specs.Orderings.{When};
 ghost use Rattle.std.specs.declared.option.Option.the-variants.{Some};
-ghost use Rattle.console.specs.Hex.{digit-value, byte-of, bytes-of, digit-of, hex-of, Reads-back};
-use std::alloc::AllocError;
-use std::alloc::Global;
+ghost use Rattle.console.specs.Hex.{digit-value, byte-of, bytes-of, digit-of, hex-of, Unfit, Reads-back};
 use std::fmt;
 
-// The bytes that `word` writes, or None where it is not hexadecimal.
-pub fn hex_bytes(heap: Global, word: &[u8]) -> Result<Option<Vec<u8>>, AllocError>
-    ensures value { λ r. ⌜ made r (λ o. mapped vec-items o ≡ bytes-of (now (word .entry))) ⌝ }
+// Fills `out` with the bytes that `word` writes, where it is hexadecimal and writes exactly so many.
+pub fn hex_fill(word: &[u8], out: &mut [u8]) -> bool
+    ensures value { λ r. ⌜ When r (bytes-of (now (word .entry)) ≡ Some (now (out .exit))) (Unfit (now (word .entry)) (length (now (out .entry)))) ⌝ }
     ensures back { λ _. ⌜ Reads-back ⌝ }
 {
-    let mut bytes = Vec::new(heap);
-    let mut rest = word;
-    while let [high, low, after @ ..] = rest {
-        let Some(b) = byte(*high, *low) else {
-            return Ok(None);
+    if word.len() != 2 * out.len() {
+        return false;
+    }
+    for i in 0..out.len() {
+        let Some(b) = byte(word[2 * i], word[2 * i + 1]) else {
+            return false;
         };
-        bytes.push(b)?;
-        rest = after;
+        out[i] = b;
     }
-    if rest.is_empty() {
-        Ok(Some(bytes))
-    } else {
-        Ok(None)
-    }
+    true
 }
 
 // Whether `word` is hexadecimal.

@@ -8,7 +8,7 @@ mod words;
 
 pub use hex::Hex;
 pub use hex::HexDisplay;
-pub use hex::hex_bytes;
+pub use hex::hex_fill;
 pub use hex::is_hex;
 pub use line::read_line;
 pub use number::signed;

@@ -11,6 +11,7 @@ use Rattle.commands.specs.Commands.{Asked, Kind, room, shown, called, slot, hex
 use Rattle.rooms.specs.Calls.{answer-to, after-call}
 use Rattle.rooms.specs.Meaning.{empty}
 use Rattle.rooms.specs.Record.{decoded, Spoils}
+use Rattle.rooms.specs.declared.refusal.BadRecord.the-variants.{Length}
 use Rattle.rooms.specs.declared.calls.RoomAnswer.{RoomAnswer}
 use Rattle.rooms.specs.declared.calls.RoomAnswer.the-variants as answer
 use Rattle.office.specs.Rooms.{meaning-of, record-of, part}
@@ -21,16 +22,15 @@ use Rattle.office.specs.declared.room.OfficeRoom.{OfficeRoom}
 -- the record is shown where there is one
 abbrev pub show-record : Option (List ℕ) → Reply
 show-record None = reply.NoRecord
-show-record (Some bytes) = reply.Record
+show-record (Some bytes) = reply.Record bytes
 
 -- a line that is no command is answered so
 abbrev pub IsMisread : Reply → Type 0
 IsMisread (reply.Answer c a) = ⊥
 IsMisread reply.Opened = ⊥
 IsMisread (reply.BadRecord why) = ⊥
-IsMisread reply.Record = ⊥
+IsMisread (reply.Record bytes) = ⊥
 IsMisread reply.NoRecord = ⊥
-IsMisread reply.NoMemory = ⊥
 IsMisread (reply.Misread why) = Unit {0}
 
 -- bytes are opened as a record, or the room before them stays
@@ -38,13 +38,13 @@ abbrev pub Opens : Option ℕ → List ℕ → OfficeRoom → OfficeRoom → Rep
 Opens base bytes before after (reply.Answer c a) = ⊥
 Opens base bytes before after reply.Opened = (record-of after ≡ Some bytes) × (meaning-of after ≡ part base (decoded bytes))
 Opens base bytes before after (reply.BadRecord why) = (after ≡ before) × Spoils why bytes
-Opens base bytes before after reply.Record = ⊥
+Opens base bytes before after (reply.Record bs) = ⊥
 Opens base bytes before after reply.NoRecord = ⊥
-Opens base bytes before after reply.NoMemory = after ≡ before
 Opens base bytes before after (reply.Misread why) = ⊥
 
+-- HEX is opened; what is no HEX writes no record
 abbrev pub OpensHex : Option ℕ → Option (List ℕ) → OfficeRoom → OfficeRoom → Reply → Type 0
-OpensHex base None before after r = (after ≡ before) × (r ≡ reply.NoMemory)
+OpensHex base None before after r = (after ≡ before) × (r ≡ reply.BadRecord Length)
 OpensHex base (Some bytes) before after r = Opens base bytes before after r
 
 -- a room is chosen
@@ -76,9 +76,8 @@ abbrev pub class-of : Reply → Class
 class-of (reply.Answer c a) = answer-class a
 class-of reply.Opened = fine
 class-of (reply.BadRecord why) = refused
-class-of reply.Record = fine
+class-of (reply.Record bytes) = fine
 class-of reply.NoRecord = wrong
-class-of reply.NoMemory = wrong
 class-of (reply.Misread why) = wrong
 
 -- the count after one more reply

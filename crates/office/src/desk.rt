@@ -1,9 +1,10 @@
 ghost use mathlib.Core.Path.{_≡_};
 ghost use Rattle.std.specs.declared.option.Option.the-variants.{Some};
+ghost use Rattle.console.specs.Hex.{bytes-of};
 ghost use Rattle.console.specs.Words.{words-of};
 ghost use Rattle.commands.specs.Commands.{command-of, room-asked};
 ghost use Rattle.rooms.specs.Meaning.{empty};
-ghost use Rattle.office.specs.Replies.{Does, class-of, tallied};
+ghost use Rattle.office.specs.Replies.{Does, OpensHex, class-of, tallied};
 ghost use Rattle.office.specs.Rooms.{meaning-of};
 use crate::reply::Reply;
 use crate::room::OfficeRoom;
@@ -12,9 +13,9 @@ use commands::RoomChoice;
 use commands::RoomKind;
 use commands::read_command;
 use console::Tally;
-use console::hex_bytes;
+use console::hex_fill;
+use rooms::BadRecord;
 use rooms::RoomAnswer;
-use std::alloc::Global;
 
 // The room that the office works on, and the count of what it answered. A line takes the desk and gives it back.
 #[derive(Drop)]
@@ -48,12 +49,12 @@ impl Desk {
     }
 
     // Does what one line asks for.
-    pub fn reply(self, heap: Global, line: &[u8]) -> (Desk, Reply)
+    pub fn reply(self, line: &[u8]) -> (Desk, Reply)
         ensures does { λ r. ⌜ Does (command-of (words-of (now (line .entry)))) (self .room) (r .0 .room) (r .1) ⌝ }
         ensures counts { λ r. ⌜ r .0 .tally ≡ tallied (class-of (r .1)) (self .tally) ⌝ }
     {
         let Desk { room, tally } = self;
-        let (room, reply) = obey(room, heap, line);
+        let (room, reply) = obey(room, line);
         let tally = count(tally, reply);
         (Desk { room, tally }, reply)
     }
@@ -64,22 +65,21 @@ fn count(mut tally: Tally, reply: Reply) -> Tally
 {
     match reply {
         Reply::Answer(_, RoomAnswer::Refused(_)) | Reply::BadRecord(_) => tally.refused(),
-        Reply::Answer(_, _) | Reply::Opened | Reply::Record => tally.ok(),
-        Reply::NoRecord | Reply::NoMemory | Reply::Misread(_) => tally.error(),
+        Reply::Answer(_, _) | Reply::Opened | Reply::Record(_) => tally.ok(),
+        Reply::NoRecord | Reply::Misread(_) => tally.error(),
     }
     tally
 }
 
-fn obey(room: OfficeRoom, heap: Global, line: &[u8]) -> (OfficeRoom, Reply)
+fn obey(room: OfficeRoom, line: &[u8]) -> (OfficeRoom, Reply)
     ensures { λ r. ⌜ Does (command-of (words-of (now (line .entry)))) room (r .0) (r .1) ⌝ }
 {
     match read_command(line) {
-        Ok(Command::Room(choice)) => choose(room, heap, choice),
+        Ok(Command::Room(choice)) => choose(room, choice),
         Ok(Command::Record) => {
-            let reply = if room.bytes().is_some() {
-                Reply::Record
-            } else {
-                Reply::NoRecord
+            let reply = match room.bytes() {
+                Some(bytes) => Reply::Record(bytes),
+                None => Reply::NoRecord,
             };
             (room, reply)
         }
@@ -92,17 +92,24 @@ fn obey(room: OfficeRoom, heap: Global, line: &[u8]) -> (OfficeRoom, Reply)
 }
 
 // A refused choice leaves the room before it.
-fn choose(room: OfficeRoom, heap: Global, choice: RoomChoice<'_>) -> (OfficeRoom, Reply)
+fn choose(room: OfficeRoom, choice: RoomChoice<'_>) -> (OfficeRoom, Reply)
     ensures { λ r. ⌜ Does (Some (room-asked (choice .entry))) room (r .0) (r .1) ⌝ }
 {
     match choice.kind {
         RoomKind::Slot => (OfficeRoom::slot(choice.base), Reply::Opened),
-        RoomKind::Record(hex) => match hex_bytes(heap, hex) {
-            Ok(Some(bytes)) => match OfficeRoom::record(choice.base, &bytes) {
-                Ok(opened) => (opened, Reply::Opened),
-                Err(why) => (room, Reply::BadRecord(why)),
-            },
-            Ok(None) | Err(_) => (room, Reply::NoMemory),
-        },
+        RoomKind::Record(hex) => open_record(room, choice.base, hex),
+    }
+}
+
+fn open_record(room: OfficeRoom, base: Option<u8>, hex: &[u8]) -> (OfficeRoom, Reply)
+    ensures { λ r. ⌜ OpensHex base (bytes-of (now (hex .entry))) room (r .0) (r .1) ⌝ }
+{
+    let mut bytes = [0; 289];
+    if !hex_fill(hex, &mut bytes) {
+        return (room, Reply::BadRecord(BadRecord::Length));
+    }
+    match OfficeRoom::record(base, &bytes) {
+        Ok(opened) => (opened, Reply::Opened),
+        Err(why) => (room, Reply::BadRecord(why)),
     }
 }

@@ -24,7 +24,7 @@ fn run(rt: &LibcRuntime) -> Result<(), AnyError> {
         if passed_over(&line) {
             continue;
         }
-        let (after, reply) = desk.reply(rt.alloc(), &line);
+        let (after, reply) = desk.reply(&line);
         desk = after;
         print_reply(rt, desk.room(), &reply)?;
     }

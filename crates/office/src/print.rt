@@ -17,14 +17,13 @@ pub(crate) fn print_reply(rt: &LibcRuntime, room: &OfficeRoom, reply: &Reply) ->
         Reply::Answer(call, answer) => print_answer(rt, room, call, answer),
         Reply::Opened => println!(rt, "ok"),
         Reply::BadRecord(why) => print_bad_record(rt, why),
-        Reply::Record => print_record(rt, room),
+        Reply::Record(bytes) => {
+            let hex = Hex(bytes);
+            println!(rt, "{hex}")
+        }
         Reply::NoRecord => {
             println!(rt, "error: this room is kept in no record")?;
             println!(rt, "  open one by: room record HEX")
-        }
-        Reply::NoMemory => {
-            println!(rt, "error: there is no memory for these bytes")?;
-            println!(rt, "  a record has 289 bytes, 578 digits")
         }
         Reply::Misread(why) => print_misread(rt, why),
     }
@@ -54,19 +53,22 @@ fn print_refusal(
     why: &RoomRefusal,
 ) -> io::Result<()> {
     let number = why.number();
-    match call {
-        RoomCall::Take(k) => {
-            println!(rt, "refused {number} at 0: latch {k} cannot be taken")?;
-            explain_latch(rt, room, *k, "is held; it has to be given back first")
-        }
-        RoomCall::Give(k) => {
-            println!(rt, "refused {number} at 0: latch {k} cannot be given back")?;
-            explain_latch(rt, room, *k, "is free already")
-        }
-        _ => {
-            println!(rt, "refused {number} at 0: there is no such cell")?;
+    let place = why.place();
+    print!(rt, "refused {number} at {place}: ")?;
+    match (why, call) {
+        (RoomRefusal::NoSuchCell, _) => {
+            println!(rt, "there is no such cell")?;
             explain_cells(rt, room.size())
         }
+        (RoomRefusal::LatchRefused, RoomCall::Take(k)) => {
+            println!(rt, "latch {k} cannot be taken")?;
+            explain_latch(rt, room, *k, "is held; it has to be given back first")
+        }
+        (RoomRefusal::LatchRefused, RoomCall::Give(k)) => {
+            println!(rt, "latch {k} cannot be given back")?;
+            explain_latch(rt, room, *k, "is free already")
+        }
+        (RoomRefusal::LatchRefused, _) => println!(rt, "the latch refuses"),
     }
 }
 
@@ -92,7 +94,8 @@ fn explain_cells(rt: &LibcRuntime, size: usize) -> io::Result<()> {
 
 fn print_bad_record(rt: &LibcRuntime, why: &BadRecord) -> io::Result<()> {
     let number = why.number();
-    println!(rt, "refused {number} at 0: these bytes are no record")?;
+    let place = why.place();
+    println!(rt, "refused {number} at {place}: these bytes are no record")?;
     match why {
         BadRecord::Length => println!(rt, "  a record has 289 bytes, 578 digits"),
         BadRecord::Mark(c) => println!(
@@ -100,16 +103,6 @@ fn print_bad_record(rt: &LibcRuntime, why: &BadRecord) -> io::Result<()> {
             "  the mark of cell {c}, the ninth of its bytes, is neither 00 nor 01"
         ),
         BadRecord::Latches => println!(rt, "  the last byte, of the latches, is above 0f"),
-    }
-}
-
-fn print_record(rt: &LibcRuntime, room: &OfficeRoom) -> io::Result<()> {
-    match room.bytes() {
-        Some(bytes) => {
-            let hex = Hex(bytes);
-            println!(rt, "{hex}")
-        }
-        None => Ok(()),
     }
 }
 

@@ -10,9 +10,7 @@ pub enum Reply {
     Answer(RoomCall, RoomAnswer),
     Opened,
     BadRecord(BadRecord),
-    // the record is to be shown
-    Record,
+    Record([u8; 289]),
     NoRecord,
-    NoMemory,
     Misread(Misread),
 }

@@ -1,5 +1,4 @@
 ghost use mathlib.Core.Path.{_≡_};
-ghost use Rattle.std.specs.Options.{mapped};
 ghost use Rattle.std.specs.declared.option.Option.the-variants.{Some};
 ghost use Rattle.std.specs.declared.result.Result.the-variants.{Ok, Err};
 ghost use Rattle.rooms.specs.Calls.{answer-to, after-call};
@@ -60,20 +59,20 @@ impl OfficeRoom {
     {
         match self {
             OfficeRoom::Slot(mut room) => {
-                let reply = answer(&mut room, call);
-                (OfficeRoom::Slot(room), reply)
+                let said = answer(&mut room, call);
+                (OfficeRoom::Slot(room), said)
             }
             OfficeRoom::Record(mut room) => {
-                let reply = answer(&mut room, call);
-                (OfficeRoom::Record(room), reply)
+                let said = answer(&mut room, call);
+                (OfficeRoom::Record(room), said)
             }
             OfficeRoom::SlotWindow(mut room) => {
-                let reply = answer(&mut room, call);
-                (OfficeRoom::SlotWindow(room), reply)
+                let said = answer(&mut room, call);
+                (OfficeRoom::SlotWindow(room), said)
             }
             OfficeRoom::RecordWindow(mut room) => {
-                let reply = answer(&mut room, call);
-                (OfficeRoom::RecordWindow(room), reply)
+                let said = answer(&mut room, call);
+                (OfficeRoom::RecordWindow(room), said)
             }
         }
     }
@@ -101,12 +100,12 @@ impl OfficeRoom {
     }
 
     // The bytes of the record, where the room is one or a window over one.
-    pub fn bytes(&self) -> Option<&[u8]>
-        ensures { λ r. ⌜ mapped now r ≡ record-of (now (self .entry)) ⌝ }
+    pub fn bytes(&self) -> Option<[u8; 289]>
+        ensures { λ r. ⌜ r ≡ record-of (now (self .entry)) ⌝ }
     {
         match self {
-            OfficeRoom::Record(room) => Some(room.bytes()),
-            OfficeRoom::RecordWindow(window) => Some(window.below().bytes()),
+            OfficeRoom::Record(room) => Some(*room.bytes()),
+            OfficeRoom::RecordWindow(window) => Some(*window.below().bytes()),
             OfficeRoom::Slot(_) | OfficeRoom::SlotWindow(_) => None,
         }
     }

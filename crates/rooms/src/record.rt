@@ -52,7 +52,7 @@ impl RecordRoom {
     }
 
     // The record as it is now: bytes that open again as a room of the same meaning.
-    pub fn bytes(&self) -> &[u8]
+    pub fn bytes(&self) -> &[u8; LENGTH]
         ensures value { λ r. ⌜ now r ≡ now (self .entry) .bytes ⌝ }
         ensures opens { λ r. ⌜ IsRecord (now r) ⌝ }
     {

@@ -1,5 +1,5 @@
 ghost use mathlib.Core.Path.{_≡_};
-ghost use Rattle.rooms.specs.Refusals.{refusal-number, bad-record-number};
+ghost use Rattle.rooms.specs.Refusals.{refusal-number, refusal-place, bad-record-number, bad-record-place};
 
 // Why a room refuses a call.
 #[derive(Clone, Copy, PartialEq, Eq)]
@@ -15,6 +15,14 @@ impl RoomRefusal {
         match self {
             RoomRefusal::NoSuchCell => 13,
             RoomRefusal::LatchRefused => 14,
+        }
+    }
+
+    pub fn place(&self) -> usize
+        ensures { λ r. ⌜ r ≡ refusal-place (now (self .entry)) ⌝ }
+    {
+        match self {
+            RoomRefusal::NoSuchCell | RoomRefusal::LatchRefused => 0,
         }
     }
 }
@@ -34,6 +42,14 @@ impl BadRecord {
     {
         match self {
             BadRecord::Length | BadRecord::Mark(_) | BadRecord::Latches => 17,
+        }
+    }
+
+    pub fn place(&self) -> usize
+        ensures { λ r. ⌜ r ≡ bad-record-place (now (self .entry)) ⌝ }
+    {
+        match self {
+            BadRecord::Length | BadRecord::Mark(_) | BadRecord::Latches => 0,
         }
     }
 }

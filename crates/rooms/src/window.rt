@@ -32,14 +32,6 @@ impl<R: Room> Window<R> {
     {
         &self.below
     }
-
-    // The room below, at the window's end.
-    pub fn into_below(self) -> R
-        ensures { λ r. ⌜ r ≡ self .below ⌝ }
-    {
-        let Window { below, base: _ } = self;
-        below
-    }
 }
 
 // How many cells a window shows of so many.
