@@ -8,7 +8,7 @@ ghost use Rattle.std.specs.declared.option.Option.the-variants.{Some};
 ghost use Rattle.console.specs.Hex.{digit-value, byte-of, bytes-of, digit-of, hex-of, Unfit, Reads-back};
 use std::fmt;
 
-// Fills `out` with the bytes that `word` writes, where it is hexadecimal and writes exactly so many.
+// Fills `out` with the bytes that `word` writes, where it is hexadecimal and writes exactly so many. Else `out` may hold any bytes.
 pub fn hex_fill(word: &[u8], out: &mut [u8]) -> bool
     ensures value { λ r. ⌜ When r (bytes-of (now (word .entry)) ≡ Some (now (out .exit))) (Unfit (now (word .entry)) (length (now (out .entry)))) ⌝ }
     ensures back { λ _. ⌜ Reads-back ⌝ }
