@@ -1,4 +1,6 @@
 // Measures how fast rule texts are read, with the argument `measure`. Without it one text is read once.
+#![tactic(auto)]
+
 mod rule_text;
 
 use rule_text::fill_rule;

@@ -1,4 +1,6 @@
 // Which line is which command.
+#![tactic(auto)]
+
 mod command;
 mod fault;
 mod keyword;

@@ -1,5 +1,7 @@
 // What programs share that answer commands line by line: reading a line, its words, the numbers, bytes and texts in it, and
 // the count of answers. docs/commands.md has the rules.
+#![tactic(auto)]
+
 mod hex;
 mod line;
 mod number;

@@ -1,3 +1,5 @@
+#![tactic(auto)]
+
 mod desk;
 mod print;
 mod reply;

@@ -1,4 +1,6 @@
 // What rooms do on examples, and code over any room.
+#![tactic(auto)]
+
 #[cfg(test)]
 mod alike;
 #[cfg(test)]

@@ -1,4 +1,6 @@
 // Reads a rule text into nodes. docs/rule-language.md has the rules.
+#![tactic(auto)]
+
 mod conds;
 mod fault;
 mod given;

@@ -1,4 +1,6 @@
 // The tokens of a rule text. docs/rule-language.md has the rules.
+#![tactic(auto)]
+
 mod class;
 mod lexeme;
 mod scan;
