@@ -3,7 +3,7 @@ use Rattle.console.proofs.Reading.{goes, stops, ends}
 use Rattle.console.proofs.number.digits_value.Goals as goal
 
 pub loop-b-preserved : goal.loop-b-preserved
-loop-b-preserved c = goes c.args.word.now _ _ c.loop-b.invariant _ (omega arith) c.in-ok-n.ensures
+loop-b-preserved c = goes c.args.word.now _ _ c.loop-b.invariant _ (omega arith) c.in_ok-n.ensures
 
 pub returns-in-err-n : goal.returns-in-err-n
 returns-in-err-n c =

@@ -8,7 +8,7 @@ loop-rest-init c = fill_first _ c.args.written.now c.args.out.now
 
 pub loop-rest-preserved : goal.loop-rest-preserved
 loop-rest-preserved c =
-    let put = c.put-byte-n.ensures in
+    let put = c.put_byte-n.ensures in
     fill_more _ _ _ _ _ _ c.loop-rest.auto.out c.loop-rest.invariant c.in-Some.b c.in-Some.after.now _ _ c.in-Some.ensures put.bytes put.next
 
 pub returns-in-default : goal.returns-in-default

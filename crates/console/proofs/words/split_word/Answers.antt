@@ -4,6 +4,6 @@ use Rattle.console.proofs.words.split_word.Goals as goal
 
 pub returns : goal.returns
 returns c =
-    let at = c.word-len.ensures in
-    let parts = c.split-at.ensures in
-    split_at c.args.line.now c.split-at.result.0.now c.split-at.result.1.now c.word-len.result parts.front-len at.before at.found parts.by_index.0 (option_map (λ x. x.now) c.behind-first.result) c.behind-first.ensures
+    let at = c.word_len.ensures in
+    let parts = c.split_at.ensures in
+    split_at c.args.line.now c.split_at.result.0.now c.split_at.result.1.now c.word_len.result parts.front_len at.before at.found parts.by_index.0 (option_map (λ x. x.now) c.behind-first.result) c.behind-first.ensures

@@ -22,7 +22,7 @@ returns g c =
     let k = subst (λ rest. Kept (g.A.Cells.meaning at.a) (g.B.Cells.meaning at.b) (g.A.Cells.meaning c.args.a.now) (g.B.Cells.meaning c.args.b.now) rest calls at.alike) (drop_all at.call-index calls c.loop-call-test.false) at.invariant in
     record {
       answers = (λ ok. k.forth ok refl, λ e. (k.back e).0);
-      a-after = left_by _ _ _ k.a_left;
-      b-after = left_by _ _ _ k.b_left;
-      meaning-is-all = λ e. ((k.back (ap (λ m. answers_to m calls) e)).0, k.a_left ∙ ap (λ m. after_calls m calls) e ∙ sym k.b_left);
+      a_after = left_by _ _ _ k.a_left;
+      b_after = left_by _ _ _ k.b_left;
+      meaning_is_all = λ e. ((k.back (ap (λ m. answers_to m calls) e)).0, k.a_left ∙ ap (λ m. after_calls m calls) e ∙ sym k.b_left);
     }

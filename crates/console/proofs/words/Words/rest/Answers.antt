@@ -5,4 +5,4 @@ use Rattle.console.proofs.words.Words.rest.Goals as goal
 
 pub returns : goal.returns
 returns c =
-    let e = c.or-empty.ensures in record { text = e; words = e ∙ words_again (text_left c.args.self.now) }
+    let e = c.or_empty.ensures in record { text = e; words = e ∙ words_again (text_left c.args.self.now) }

@@ -9,7 +9,7 @@ pub returns : goal.returns
 returns c =
     let old = c.args.self.now in
     let ls : List Bool = set (latches_in (latch_byte old.bytes)) c.args.k c.args.on in
-    let e : c.byte-of.result ≡ byte_of ls = c.byte-of.ensures.value ∙ ap (λ xs. byte_of (set xs c.args.k c.args.on)) c.latches-latches.ensures in
+    let e : c.byte_of.result ≡ byte_of ls = c.byte_of.ensures.value ∙ ap (λ xs. byte_of (set xs c.args.k c.args.on)) c.latches-latches.ensures in
     let changed = ap (set old.bytes 288) e in
     let meaning : List Bool → Meaning = λ latches. record { cells = cells_in old.bytes; latches = latches } in
     record { after = ap decoded changed ∙ decoded_latched old.bytes (byte_of ls) old.long ∙ ap meaning (latches_back ls (length-set (latches_in (latch_byte old.bytes)) c.args.k c.args.on)); bytes = changed }

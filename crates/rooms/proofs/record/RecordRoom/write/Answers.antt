@@ -21,6 +21,6 @@ invariant-of-self c =
 pub returns : goal.returns
 returns c =
     let old = c.args.self.now in
-    let w = accepted old.bytes c.args.c c.args.v old.long c.if-c-ge-CELLS.false (ap cell_in (sym c.nine-for-nine.ensures.value) ∙ c.nine-for-nine.ensures.says) (nine_long c.args.v) in
-    let e : put_mid (9 * c.args.c) (9 * c.args.c + 9 - 9 * c.args.c) old.bytes c.copy-from-slice.new.self ≡ with_nine old.bytes c.args.c (nine_for c.args.v) = ap (put_mid (9 * c.args.c) (9 * c.args.c + 9 - 9 * c.args.c) old.bytes) (c.copy-from-slice.ensures.after ∙ c.nine-for-nine.ensures.value) ∙ copied old.bytes c.args.c (nine_for c.args.v) in
+    let w = accepted old.bytes c.args.c c.args.v old.long c.if-c-ge-CELLS.false (ap cell_in (sym c.nine_for-nine.ensures.value) ∙ c.nine_for-nine.ensures.says) (nine_long c.args.v) in
+    let e : put_mid (9 * c.args.c) (9 * c.args.c + 9 - 9 * c.args.c) old.bytes c.copy_from_slice.new.self ≡ with_nine old.bytes c.args.c (nine_for c.args.v) = ap (put_mid (9 * c.args.c) (9 * c.args.c + 9 - 9 * c.args.c) old.bytes) (c.copy_from_slice.ensures.after ∙ c.nine_for-nine.ensures.value) ∙ copied old.bytes c.args.c (nine_for c.args.v) in
     record { answer = w.answer; after = ap decoded e ∙ w.after; bytes = e ∙ w.bytes_are }
