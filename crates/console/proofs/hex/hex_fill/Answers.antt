@@ -12,9 +12,9 @@ pub loop-i-preserved : goal.loop-i-preserved
 loop-i-preserved c =
     fill_more c.args.word.now c.loop-i.out c.loop-i.i (omega arith) c.loop-i.invariant c.in-Some.b (omega arith) c.in-Some.ensures
 
-pub returns-in-default : goal.returns-in-default
-returns-in-default c = record {
-  value = fill_spoiled c.args.word.now c.loop-i.out c.loop-i.i (omega arith) c.loop-i.invariant (omega arith) c.in-default.ensures _;
+pub returns-in_default : goal.returns-in_default
+returns-in_default c = record {
+  value = fill_spoiled c.args.word.now c.loop-i.out c.loop-i.i (omega arith) c.loop-i.invariant (omega arith) c.in_default.ensures _;
   back = reads_back;
 }
 

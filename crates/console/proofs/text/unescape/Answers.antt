@@ -11,9 +11,9 @@ loop-rest-preserved c =
     let put = c.put_byte-n.ensures in
     fill_more _ _ _ _ _ _ c.loop-rest.auto.out c.loop-rest.invariant c.in-Some.b c.in-Some.after.now _ _ c.in-Some.ensures put.bytes put.next
 
-pub returns-in-default : goal.returns-in-default
-returns-in-default c =
-    let none = fill_spoiled _ _ _ _ _ _ c.loop-rest.auto.out c.loop-rest.invariant c.in-default.ensures in
+pub returns-in_default : goal.returns-in_default
+returns-in_default c =
+    let none = fill_spoiled _ _ _ _ _ _ c.loop-rest.auto.out c.loop-rest.invariant c.in_default.ensures in
     record {
       count = sym (ap (option_map (λ text. min (length text) (length c.args.out.now))) none);
       text = sym (ap (option_map (take (length c.args.out.now))) none);

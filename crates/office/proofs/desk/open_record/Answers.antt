@@ -11,5 +11,5 @@ unfit : (base : Option ℕ) (o : Option (List ℕ)) (room : OfficeRoom) → ((by
 unfit base None room h = (refl, refl)
 unfit base (Some bytes) room h = (refl, h bytes refl)
 
-pub returns-then-not-hex-fill : goal.returns-then-not-hex-fill
-returns-then-not-hex-fill c = unfit c.args.base (bytes_of c.args.hex.now) c.args.room c.if-not-hex-fill.ensures.value
+pub returns-then-not-hex_fill : goal.returns-then-not-hex_fill
+returns-then-not-hex_fill c = unfit c.args.base (bytes_of c.args.hex.now) c.args.room c.if-not-hex_fill.ensures.value

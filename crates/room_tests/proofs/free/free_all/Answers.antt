@@ -11,4 +11,4 @@ loop-k-preserved g c = freed_more _ _ _ _ c.give.ensures.after c.loop-k.invarian
 pub returns : goal.returns
 returns g c =
     let f = c.loop-k.invariant in
-    record { cells = f.cells; freed = freed_all _ _ _ (omega (arith, c.latch-count-k-end.ensures.value)) f }
+    record { cells = f.cells; freed = freed_all _ _ _ (omega (arith, c.latch_count-k-end.ensures.value)) f }

@@ -28,17 +28,17 @@ returns-in-Err c =
     let e = c.new-reader.ensures in
     let n = length c.args.table.now in
     record {
-      outcome = subst (λ f. Reads c.args.text.now n (refused f)) (sym c.refusal.ensures) (fails c.args.text.now n c.new-reader.result e.rest e.text c.if-text-gt-LONGEST.false c.in-Err.fault c.in-default.not-EndOfText (c.in-Err.ensures []));
+      outcome = subst (λ f. Reads c.args.text.now n (refused f)) (sym c.refusal.ensures) (fails c.args.text.now n c.new-reader.result e.rest e.text c.if-text-gt-LONGEST.false c.in-Err.fault c.in_default.not-EndOfText (c.in-Err.ensures []));
       places = c.rule.auto.nodes;
       laws = laws;
       once = one_outcome;
     }
 
-pub returns-in-default-token : goal.returns-in-default-token
-returns-in-default-token c =
+pub returns-in_default-token : goal.returns-in_default-token
+returns-in_default-token c =
     let e = c.new-reader.ensures in
     record {
-      outcome = goes_on c.args.text.now (length c.args.table.now) c.new-reader.result e.rest e.text c.if-text-gt-LONGEST.false c.rule.new.self c.in-Ok.given c.args.table.now c.rule.new.nodes c.in-Ok.ensures c.in-default.not-EndOfText c.in-default-token.not-EndOfText;
+      outcome = goes_on c.args.text.now (length c.args.table.now) c.new-reader.result e.rest e.text c.if-text-gt-LONGEST.false c.rule.new.self c.in-Ok.given c.args.table.now c.rule.new.nodes c.in-Ok.ensures c.in_default.not-EndOfText c.in_default-token.not-EndOfText;
       places = c.rule.auto.nodes;
       laws = laws;
       once = one_outcome;
@@ -67,9 +67,9 @@ returns c =
         names = all_names c.args.text.now n c.new-reader.result e.rest e.text c.if-text-gt-LONGEST.false c.rule.new.self c.in-Ok.given c.args.table.now c.rule.new.nodes h c.in-EndOfText-token.is;
         named = how_many c.args.text.now n c.new-reader.result e.rest e.text c.if-text-gt-LONGEST.false c.rule.new.self c.in-Ok.given c.args.table.now c.rule.new.nodes h c.in-EndOfText-token.is;
         is_given = h.is_given;
-        tabled = tables h.tree c.rule.new.self.count c.args.table.now c.rule.new.nodes c.blank-from.new.table (omega (arith, h.counted, e.count)) (omega (arith, c.rule.auto.nodes, c.if-count-table.false)) (h.table ∙ ap (λ i. written i (nodes rules i h.tree) c.args.table.now) e.count) c.blank-from.ensures;
+        tabled = tables h.tree c.rule.new.self.count c.args.table.now c.rule.new.nodes c.blank_from.new.table (omega (arith, h.counted, e.count)) (omega (arith, c.rule.auto.nodes, c.if-count-table.false)) (h.table ∙ ap (λ i. written i (nodes rules i h.tree) c.args.table.now) e.count) c.blank_from.ensures;
       };
-      places = c.blank-from.auto.table ∙ c.rule.auto.nodes;
+      places = c.blank_from.auto.table ∙ c.rule.auto.nodes;
       laws = laws;
       once = one_outcome;
     }

@@ -15,9 +15,9 @@ returns-then-place-text c =
     let t = c.args.text.now in
     let s : (c.if-from-text.start ≡ c.args.from) ⊎ ((length t ≤ c.args.from) × (c.if-from-text.start ≡ length t)) = elim c.if-from-text.branch [ then-from-text w ↦ inl w.start-is | else-from-text w ↦ inr (w.if-from-text.false, w.start-is) ] in
     record {
-      tokens = λ names. sym (at_stop names t c.if-from-text.start c.run-end-place.result c.run-end-place.ensures.is c.if-place-text.true) ∙ started names t c.args.from c.if-from-text.start s;
+      tokens = λ names. sym (at_stop names t c.if-from-text.start c.run_end-place.result c.run_end-place.ensures.is c.if-place-text.true) ∙ started names t c.args.from c.if-from-text.start s;
       spelt = tt;
-      within = c.run-end-place.ensures.within;
+      within = c.run_end-place.ensures.within;
       ended = λ _. c.if-place-text.true;
     }
 
@@ -25,10 +25,10 @@ pub returns : goal.returns
 returns c =
     let t = c.args.text.now in
     let s : (c.if-from-text.start ≡ c.args.from) ⊎ ((length t ≤ c.args.from) × (c.if-from-text.start ≡ length t)) = elim c.if-from-text.branch [ then-from-text w ↦ inl w.start-is | else-from-text w ↦ inr (w.if-from-text.false, w.start-is) ] in
-    let e = c.token-at-end.ensures in
-    let p = c.run-end-place.ensures in
+    let e = c.token_at-end.ensures in
+    let p = c.run_end-place.ensures in
     record {
-      tokens = λ names. at_next names t c.if-from-text.start c.run-end-place.result c.token-at-end.result.1 (symbol names c.token-at-end.result.0) p.is (omega (arith, p.within, c.if-place-text.false)) (p.stops (omega (arith, p.within, c.if-place-text.false))) (e.symbol names) e.end e.after e.within ∙ started names t c.args.from c.if-from-text.start s;
+      tokens = λ names. at_next names t c.if-from-text.start c.run_end-place.result c.token_at-end.result.1 (symbol names c.token_at-end.result.0) p.is (omega (arith, p.within, c.if-place-text.false)) (p.stops (omega (arith, p.within, c.if-place-text.false))) (e.symbol names) e.end e.after e.within ∙ started names t c.args.from c.if-from-text.start s;
       spelt = e.spelt;
       within = e.within;
       ended = λ is. let z : ◌≡◌ {A = ℕ} 0 1 = (let a = ap (symbol []) is in let b = e.symbol [] in cc) in absurd (omega arith);

@@ -10,7 +10,7 @@ loop-b-preserved g c = λ plain.
     let sofar = c.loop-b.invariant plain in
     let high = c.in_ok-write_char.ensures.writes sofar.plain (refl {a = true}) in
     let low = c.in_ok-write_char-2.ensures.writes high.plain (refl {a = true}) in
-    byte_put g.W.Write.write_str_gives c.args.f.now c.args.self.now.0.now c.loop-b.b-index c.digit.result c.digit-in-loop-b.result (omega arith) (search rules) c.digit.ensures c.digit-in-loop-b.ensures c.loop-b.f c.write_char.new.self c.write-char-in-loop-b.new.self sofar high low
+    byte_put g.W.Write.write_str_gives c.args.f.now c.args.self.now.0.now c.loop-b.b-index c.digit.result c.digit-in-loop-b.result (omega arith) (search rules) c.digit.ensures c.digit-in-loop-b.ensures c.loop-b.f c.write_char.new.self c.write_char-in-loop-b.new.self sofar high low
 
 pub returns-clause-writes : goal.returns-clause-writes
 returns-clause-writes g c = λ plain _.

@@ -8,44 +8,44 @@ use Rattle.rules.proofs.Turns.{leaves, start, start_fails, turn, turn_fails, fin
 use Rattle.rules.proofs.SumTurns.{picked, leaves_sum, number_read, name_read, opened, round}
 use Rattle.rules.proofs.reader.Reader.+factor_sum_term.Goals as goal
 
-pub factor-returns-in-err-root : goal.factor-returns-in-err-root
-factor-returns-in-err-root t c =
-    let p = err_from_is_err_and c.from-residual-in-err-root.result c.from-residual-in-err-root.ensures.1 in
-    rw (p.1, p.2) (λ k. opened c.args.depth c.in-ok-inner.inner c.in-ok-inner.ensures (c.pass.ensures.past lexeme.Open (sym c.if-not-is.ensures.value)) k ∙ c.in-err-root.ensures (this lexeme.Close ∷ k))
+pub factor-returns-in_err-root : goal.factor-returns-in_err-root
+factor-returns-in_err-root t c =
+    let p = err_from_is_err_and c.from_residual-in_err-root.result c.from_residual-in_err-root.ensures.1 in
+    rw (p.1, p.2) (λ k. opened c.args.depth c.in_ok-inner.inner c.in_ok-inner.ensures (c.pass.ensures.past lexeme.Open (sym c.if-not-is.ensures.value)) k ∙ c.in_err-root.ensures (this lexeme.Close ∷ k))
 
-pub factor-returns-in-err-expect : goal.factor-returns-in-err-expect
-factor-returns-in-err-expect t c =
-    let p = err_from_is_err_and c.from-residual-in-err-expect.result c.from-residual-in-err-expect.ensures.1 in
-    rw (p.1, p.2) (λ k. opened c.args.depth c.in-ok-inner.inner c.in-ok-inner.ensures (c.pass.ensures.past lexeme.Open (sym c.if-not-is.ensures.value)) k ∙ c.in-ok-root.ensures.goes (this lexeme.Close ∷ k) ∙ c.in-err-expect.ensures k)
+pub factor-returns-in_err-expect : goal.factor-returns-in_err-expect
+factor-returns-in_err-expect t c =
+    let p = err_from_is_err_and c.from_residual-in_err-expect.result c.from_residual-in_err-expect.ensures.1 in
+    rw (p.1, p.2) (λ k. opened c.args.depth c.in_ok-inner.inner c.in_ok-inner.ensures (c.pass.ensures.past lexeme.Open (sym c.if-not-is.ensures.value)) k ∙ c.in_ok-root.ensures.goes (this lexeme.Close ∷ k) ∙ c.in_err-expect.ensures k)
 
-pub factor-returns-in-ok-value : goal.factor-returns-in-ok-value
-factor-returns-in-ok-value t c =
-    let n = c.in-ok-value.ensures in
-    let f : SFits w64 c.in-ok-value.value = search rules in
+pub factor-returns-in_ok-value : goal.factor-returns-in_ok-value
+factor-returns-in_ok-value t c =
+    let n = c.in_ok-value.ensures in
+    let f : SFits w64 c.in_ok-value.value = search rules in
     number_read (to_z-of_z f ∙ n.0) n.1 n.2 c.put.ensures.wrote c.put.ensures.number
 
-pub factor-returns-in-ok-cell : goal.factor-returns-in-ok-cell
-factor-returns-in-ok-cell t c = name_read c.in-ok-cell.ensures c.put-in-Name.ensures.wrote c.put-in-Name.ensures.number
+pub factor-returns-in_ok-cell : goal.factor-returns-in_ok-cell
+factor-returns-in_ok-cell t c = name_read c.in_ok-cell.ensures c.put-in-Name.ensures.wrote c.put-in-Name.ensures.number
 
-pub factor-returns-in-ok-expect : goal.factor-returns-in-ok-expect
-factor-returns-in-ok-expect t c = round c.in-ok-inner.ensures (c.pass.ensures.past lexeme.Open (sym c.if-not-is.ensures.value)) c.in-ok-root.ensures c.in-ok-expect.ensures
+pub factor-returns-in_ok-expect : goal.factor-returns-in_ok-expect
+factor-returns-in_ok-expect t c = round c.in_ok-inner.ensures (c.pass.ensures.past lexeme.Open (sym c.if-not-is.ensures.value)) c.in_ok-root.ensures c.in_ok-expect.ensures
 
-pub sum-returns-in-err-left : goal.sum-returns-in-err-left
-sum-returns-in-err-left t c =
-    let p = err_from_is_err_and c.from-residual.result c.from-residual.ensures.1 in
-    rw (p.1, p.2) (start_fails c.args.depth c.args.self.now joined_sum c.in-err-left.ensures)
+pub sum-returns-in_err-left : goal.sum-returns-in_err-left
+sum-returns-in_err-left t c =
+    let p = err_from_is_err_and c.from_residual.result c.from_residual.ensures.1 in
+    rw (p.1, p.2) (start_fails c.args.depth c.args.self.now joined_sum c.in_err-left.ensures)
 
-pub sum-returns-in-err-right : goal.sum-returns-in-err-right
-sum-returns-in-err-right t c =
-    let p = err_from_is_err_and c.from-residual-in-err-right.result c.from-residual-in-err-right.ensures.1 in
+pub sum-returns-in_err-right : goal.sum-returns-in_err-right
+sum-returns-in_err-right t c =
+    let p = err_from_is_err_and c.from_residual-in_err-right.result c.from_residual-in_err-right.ensures.1 in
     let k = picked (lexeme_of c.loop-operator.self.token) c.in-Some.operator c.in-Some.ensures.value in
-    rw (p.1, p.2) (turn_fails joined_sum k.1 (c.loop-operator.invariant.1 c.args.self.now c.args.nodes.now (start joined_sum c.in-ok-left.ensures)) (c.pass-place.ensures.past k.0 (sym k.2)) c.in-err-right.ensures)
+    rw (p.1, p.2) (turn_fails joined_sum k.1 (c.loop-operator.invariant.1 c.args.self.now c.args.nodes.now (start joined_sum c.in_ok-left.ensures)) (c.pass-place.ensures.past k.0 (sym k.2)) c.in_err-right.ensures)
 
 pub sum-loop-operator-preserved : goal.sum-loop-operator-preserved
 sum-loop-operator-preserved t c =
     let k = picked (lexeme_of c.loop-operator.self.token) c.in-Some.operator c.in-Some.ensures.value in
     let past = c.pass-place.ensures.past k.0 (sym k.2) in
-    let h = c.in-ok-right.ensures in
+    let h = c.in_ok-right.ensures in
     let w = c.put-left.ensures.wrote in
     let same : _ = ap length w.rest_stays in (
       omega (arith, c.loop-operator.invariant.0, w.count, past.left, past.count, h.fits, same),
@@ -53,22 +53,22 @@ sum-loop-operator-preserved t c =
     )
 
 pub sum-returns : goal.sum-returns
-sum-returns t c = finish (c.loop-operator.invariant.1 c.args.self.now c.args.nodes.now (start joined_sum c.in-ok-left.ensures)) (leaves_sum (within c.args.depth) (lexeme_of c.loop-operator.self.token) c.in-default.ensures.value)
+sum-returns t c = finish (c.loop-operator.invariant.1 c.args.self.now c.args.nodes.now (start joined_sum c.in_ok-left.ensures)) (leaves_sum (within c.args.depth) (lexeme_of c.loop-operator.self.token) c.in_default.ensures.value)
 
-pub term-returns-in-err-left : goal.term-returns-in-err-left
-term-returns-in-err-left t c =
-    let p = err_from_is_err_and c.from-residual.result c.from-residual.ensures.1 in
-    rw (p.1, p.2) (start_fails c.args.depth c.args.self.now joined_term c.in-err-left.ensures)
+pub term-returns-in_err-left : goal.term-returns-in_err-left
+term-returns-in_err-left t c =
+    let p = err_from_is_err_and c.from_residual.result c.from_residual.ensures.1 in
+    rw (p.1, p.2) (start_fails c.args.depth c.args.self.now joined_term c.in_err-left.ensures)
 
-pub term-returns-in-err-right : goal.term-returns-in-err-right
-term-returns-in-err-right t c =
-    let p = err_from_is_err_and c.from-residual-in-err-right.result c.from-residual-in-err-right.ensures.1 in
-    rw (p.1, p.2) (turn_fails joined_term by_times (c.loop-self.invariant.1 c.args.self.now c.args.nodes.now (start joined_term c.in-ok-left.ensures)) (c.pass-place.ensures.past lexeme.Times (sym c.loop-self-test.ensures.value)) c.in-err-right.ensures)
+pub term-returns-in_err-right : goal.term-returns-in_err-right
+term-returns-in_err-right t c =
+    let p = err_from_is_err_and c.from_residual-in_err-right.result c.from_residual-in_err-right.ensures.1 in
+    rw (p.1, p.2) (turn_fails joined_term by_times (c.loop-self.invariant.1 c.args.self.now c.args.nodes.now (start joined_term c.in_ok-left.ensures)) (c.pass-place.ensures.past lexeme.Times (sym c.loop-self-test.ensures.value)) c.in_err-right.ensures)
 
 pub term-loop-self-preserved : goal.term-loop-self-preserved
 term-loop-self-preserved t c =
     let past = c.pass-place.ensures.past lexeme.Times (sym c.loop-self-test.ensures.value) in
-    let h = c.in-ok-right.ensures in
+    let h = c.in_ok-right.ensures in
     let w = c.put-left.ensures.wrote in
     let same : _ = ap length w.rest_stays in (
       omega (arith, c.loop-self.invariant.0, w.count, past.left, past.count, h.fits, same),
@@ -76,4 +76,4 @@ term-loop-self-preserved t c =
     )
 
 pub term-returns : goal.term-returns
-term-returns t c = finish (c.loop-self.invariant.1 c.args.self.now c.args.nodes.now (start joined_term c.in-ok-left.ensures)) (leaves term (within c.args.depth) lexeme.Times (λ k. go (goal factor (within c.args.depth) ∷ tail term (within c.args.depth) ∷ k)) (λ n k v. refl) (lexeme_of c.loop-self.self.token) c.loop-self-test.ensures.value)
+term-returns t c = finish (c.loop-self.invariant.1 c.args.self.now c.args.nodes.now (start joined_term c.in_ok-left.ensures)) (leaves term (within c.args.depth) lexeme.Times (λ k. go (goal factor (within c.args.depth) ∷ tail term (within c.args.depth) ∷ k)) (λ n k v. refl) (lexeme_of c.loop-self.self.token) c.loop-self-test.ensures.value)

@@ -7,23 +7,23 @@ use Rattle.rules.proofs.Turns.{misfits}
 use Rattle.rules.proofs.CondTurns.{as_sum, chosen, no_comparer, compared_goes, compare_read}
 use Rattle.rules.proofs.reader.Reader.comparison.Goals as goal
 
-pub returns-in-err-left : goal.returns-in-err-left
-returns-in-err-left c =
-    let p = err_from_is_err_and c.from-residual.result c.from-residual.ensures.1 in
-    rw (p.1, p.2) (λ k. as_sum c.args.depth c.args.self.now c.requires.1 k ∙ c.in-err-left.ensures (compared (within c.args.depth) ∷ k))
+pub returns-in_err-left : goal.returns-in_err-left
+returns-in_err-left c =
+    let p = err_from_is_err_and c.from_residual.result c.from_residual.ensures.1 in
+    rw (p.1, p.2) (λ k. as_sum c.args.depth c.args.self.now c.requires.1 k ∙ c.in_err-left.ensures (compared (within c.args.depth) ∷ k))
 
-pub returns-in-default : goal.returns-in-default
-returns-in-default c =
+pub returns-in_default : goal.returns-in_default
+returns-in_default c =
     let q = c.sum.new.self in
-    λ k. as_sum c.args.depth c.args.self.now c.requires.1 k ∙ c.in-ok-left.ensures.goes (compared (within c.args.depth) ∷ k) ∙ misfits q (compared (within c.args.depth) ∷ k) (no_comparer (within c.args.depth) q.token (names_in q) k c.in-default.ensures.value)
+    λ k. as_sum c.args.depth c.args.self.now c.requires.1 k ∙ c.in_ok-left.ensures.goes (compared (within c.args.depth) ∷ k) ∙ misfits q (compared (within c.args.depth) ∷ k) (no_comparer (within c.args.depth) q.token (names_in q) k c.in_default.ensures.value)
 
-pub returns-in-err-right : goal.returns-in-err-right
-returns-in-err-right c =
-    let p = err_from_is_err_and c.from-residual-in-err-right.result c.from-residual-in-err-right.ensures.1 in
+pub returns-in_err-right : goal.returns-in_err-right
+returns-in_err-right c =
+    let p = err_from_is_err_and c.from_residual-in_err-right.result c.from_residual-in_err-right.ensures.1 in
     let m = chosen (lexeme_of c.sum.new.self.token) c.in-Some.comparer c.in-Some.ensures.value in
-    rw (p.1, p.2) (λ k. as_sum c.args.depth c.args.self.now c.requires.1 k ∙ c.in-ok-left.ensures.goes (compared (within c.args.depth) ∷ k) ∙ compared_goes c.args.depth m.1 (c.pass-place.ensures.past m.0 (sym m.2)) k ∙ c.in-err-right.ensures k)
+    rw (p.1, p.2) (λ k. as_sum c.args.depth c.args.self.now c.requires.1 k ∙ c.in_ok-left.ensures.goes (compared (within c.args.depth) ∷ k) ∙ compared_goes c.args.depth m.1 (c.pass-place.ensures.past m.0 (sym m.2)) k ∙ c.in_err-right.ensures k)
 
 pub returns : goal.returns
 returns c =
     let m = chosen (lexeme_of c.sum.new.self.token) c.in-Some.comparer c.in-Some.ensures.value in
-    compare_read c.requires.1 c.in-ok-left.ensures m.1 (c.pass-place.ensures.past m.0 (sym m.2)) c.pass-place.ensures.place c.in-ok-right.ensures c.kind.ensures c.put.ensures.wrote c.put.ensures.number
+    compare_read c.requires.1 c.in_ok-left.ensures m.1 (c.pass-place.ensures.past m.0 (sym m.2)) c.pass-place.ensures.place c.in_ok-right.ensures c.kind.ensures c.put.ensures.wrote c.put.ensures.number

@@ -2,8 +2,8 @@ use Rattle.rules.specs.Names.{words_of}
 use Rattle.rules.proofs.Passing.{still_numbered, settled_name}
 use Rattle.rules.proofs.reader.Reader.name.Goals as goal
 
-pub invariant-of-self : goal.invariant-of-self
-invariant-of-self c =
+pub invariant_of-self : goal.invariant_of-self
+invariant_of-self c =
     let r = c.args.self.now in
     let e = c.cell.ensures in
     (r.ended, (r.digits, (e.places, (e.few, (still_numbered r.names c.cell.new.self c.cell.result r.place r.at r.text.now c.args.word r.token e.cell c.requires r.numbered, tt)))))

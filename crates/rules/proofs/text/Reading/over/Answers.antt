@@ -4,7 +4,7 @@ use Rattle.rules.proofs.text.Reading.over.Goals as goal
 
 pub returns : goal.returns
 returns c = record {
-  nodes = ap (λ x. x.now) c.unwrap-or-nodes.ensures ∙ front_part c.args.self.count c.args.table c.get.result c.get.ensures.lookup;
+  nodes = ap (λ x. x.now) c.unwrap_or-nodes.ensures ∙ front_part c.args.self.count c.args.table c.get.result c.get.ensures.lookup;
   names = refl;
   given = refl;
 }
