@@ -1,7 +1,7 @@
 -- The grammar: `Derives c X b s t r` says that the tokens s begin with an X, a sort of the class c, whose tree is t, within the
 -- bound b, and that r is what follows it.
 use Rattle.std.specs.Prelude.{◌≡◌, ℕ, zero, suc, ◌^◌, Bool, true, false, ◌&&◌, List, [], ◌∷◌, ◌++◌, length, pos, Some, None, Option, bit_or, nat_le, nat_lt}
-use Rattle.tokens.specs.Tokens.{Symbol, name, number, fixed, Spot, at}
+use Rattle.tokens.specs.Tokens.{name, number, fixed, Spot, at}
 use Rattle.tokens.specs.declared.lexeme.Lexeme.{Lexeme}
 use Rattle.tokens.specs.declared.lexeme.Lexeme.TheVariants as lexeme
 use Rattle.grammar.specs.Trees.{Sum, Cond, Statement, Rule, add, subtract, multiply, equal, at_most, compute, truth, negate, both, compare, skip, leave, assign, choose, loop, hold, sequence}

@@ -2,7 +2,7 @@
 use Rattle.std.specs.Prelude.{◌≡◌, ℕ, List, [], ◌∷◌}
 use Rattle.tokens.specs.Tokens.{Spot}
 use Rattle.grammar.specs.Trees.{Rule}
-use Rattle.grammar.specs.Grammar.{Bound, unbounded, limits, rule, Whole, Begins, Misfit, Passes}
+use Rattle.grammar.specs.Grammar.{Bound, unbounded, limits, rule, Whole, Misfit, Passes}
 use Rattle.grammar.specs.Automaton.{Verdict, accepted, misfit, limited, judge, need}
 
 -- tokens have at most one tree, within limits or without

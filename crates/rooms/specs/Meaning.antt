@@ -1,5 +1,5 @@
 -- A room's meaning, its cells and latches as one value, and what each room call answers and leaves by that value alone.
-use Rattle.std.specs.Prelude.{ℕ, Bool, true, false, cond, not, List, length, replicate, ℤ, Some, None, Ok, Err, Option, Result, nat_lt, slice_index_or, slice_set}
+use Rattle.std.specs.Prelude.{ℕ, Bool, true, false, cond, not, List, length, replicate, ℤ, None, Ok, Err, Option, Result, nat_lt, slice_index_or, slice_set}
 use Rattle.rooms.specs.declared.refusal.RoomRefusal.{RoomRefusal}
 use Rattle.rooms.specs.declared.refusal.RoomRefusal.TheVariants.{NoSuchCell, LatchRefused}
 

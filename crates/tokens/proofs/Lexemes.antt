@@ -1,5 +1,5 @@
 -- Lexemes of one number are the same.
-use Rattle.std.proofs.Common.{◌≡◌, ℕ, true, List, [], ◌∷◌, get_or, sym, refl, ap, ◌∙◌, eq-eqb, true-eqb}
+use Rattle.std.proofs.Common.{◌≡◌, true, List, [], ◌∷◌, get_or, sym, refl, ap, ◌∙◌, eq-eqb, true-eqb}
 use Rattle.tokens.specs.Lexemes.{lexeme_number, same_lexeme}
 use Rattle.tokens.specs.declared.lexeme.Lexeme.{Lexeme}
 use Rattle.tokens.specs.declared.lexeme.Lexeme.TheVariants as lexeme

@@ -1,9 +1,9 @@
 -- Runs and tokens of the bytes from an offset on.
-use Rattle.std.proofs.Common.{◌≡◌, ℕ, zero, suc, ◌+◌, ◌-◌, ◌<◌, ◌≤◌, Bool, true, false, cond, ◌&&◌, eqb, ◌⊎◌, List, [], ◌∷◌, length, get_or, take, drop, Some, None, Option, sym, refl, ap, ◌∙◌, subst, inl, inr, add-one, arith, length-drop, drop-cons}
+use Rattle.std.proofs.Common.{◌≡◌, ℕ, zero, suc, ◌+◌, ◌-◌, ◌<◌, ◌≤◌, Bool, true, false, cond, ◌&&◌, eqb, ◌⊎◌, List, [], ◌∷◌, length, get_or, take, drop, Some, Option, sym, refl, ap, ◌∙◌, inl, inr, add-one, arith, length-drop, drop-cons}
 use Rattle.std.proofs.lemmas.List.{drop_all, drop-drop}
 use Rattle.console.specs.Numbers.{is_digit, all_digits, value_after}
 use Rattle.tokens.specs.Classes.{is_blank, is_letter, run}
-use Rattle.tokens.specs.Tokens.{Symbol, number, Spot, at, reserved, sign, worded, signed, equals_first, symbol_at, width_at, names_with, tokens, tokens_from}
+use Rattle.tokens.specs.Tokens.{Symbol, number, at, reserved, sign, worded, signed, equals_first, symbol_at, width_at, names_with, tokens, tokens_from}
 use Rattle.tokens.specs.Lexing.{placed, some_digits}
 use Rattle.tokens.specs.declared.lexeme.Lexeme.{Lexeme}
 

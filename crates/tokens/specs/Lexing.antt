@@ -1,5 +1,5 @@
 -- What a token of the code stands for.
-use Rattle.std.specs.Prelude.{◌≡◌, ℕ, ◌+◌, ◌-◌, Bool, true, false, List, [], ◌∷◌, drop, Some, None, Option, slice_index, slice_range}
+use Rattle.std.specs.Prelude.{◌≡◌, ℕ, ◌+◌, Bool, true, false, List, [], ◌∷◌, drop, Some, None, Option, slice_index, slice_range}
 use Rattle.console.specs.Numbers.{all_digits, value_after}
 use Rattle.tokens.specs.Tokens.{Symbol, name, number, fixed, stray, Spot, at, cell_of, reserved, sign, equals_first, names_with, tokens_from}
 use Rattle.tokens.specs.declared.lexeme.Lexeme.{Lexeme}

@@ -1,4 +1,4 @@
-use Rattle.std.proofs.Common.{◌≡◌, ℕ, ◌≤◌, ◌⊎◌, List, [], length, Some, None, sym, refl, ap, ◌∙◌, inl, inr, arith}
+use Rattle.std.proofs.Common.{◌≡◌, ℕ, ◌≤◌, ◌⊎◌, List, [], length, sym, ap, ◌∙◌, inl, inr, arith}
 use Rattle.tokens.specs.Tokens.{tokens_from}
 use Rattle.tokens.specs.Lexing.{symbol}
 use Rattle.tokens.proofs.Scans.{none_left, at_stop, at_next}

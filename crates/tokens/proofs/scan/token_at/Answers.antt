@@ -1,4 +1,4 @@
-use Rattle.std.proofs.Common.{◌≡◌, ℕ, ◌+◌, ◌-◌, Bool, List, get_or, take, drop, Some, sym, refl, ap, ◌∙◌, inl, inr, arith}
+use Rattle.std.proofs.Common.{◌+◌, get_or, Some, sym, refl, ap, ◌∙◌, inl, inr, arith}
 use Rattle.tokens.specs.Tokens.{sign, signed}
 use Rattle.tokens.proofs.Scans.{letter_token, digit_token, digits_at, sign_token, Seen, seen_is, fitting}
 use Rattle.tokens.proofs.scan.token_at.Goals as goal
