@@ -3,7 +3,7 @@ use Rattle.std.proofs.Common.{◌≡◌, ℕ, suc, ◌+◌, ◌-◌, ◌^◌, �
 use borrow.Rule.Slice.PartMut.{put_mid}
 use Rattle.std.specs.Slice.{IsGetRangeResult}
 use Rattle.std.proofs.lemmas.List.{take_all, drop_all}
-use Rattle.tokens.specs.Tokens.{Spot, tokens_of, names_after, names_of}
+use Rattle.tokens.specs.Tokens.{tokens_of, names_after, names_of}
 use Rattle.tokens.specs.Lexing.{symbol, with_token}
 use Rattle.tokens.specs.declared.token.Token.{Token}
 use Rattle.tokens.specs.declared.token.Token.TheVariants as token

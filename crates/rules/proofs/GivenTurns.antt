@@ -1,5 +1,5 @@
 -- The turns of the readers of the given part and of a whole rule.
-use Rattle.std.proofs.Common.{◌≡◌, ℕ, ◌+◌, ◌^◌, true, false, List, [], ◌∷◌, length, sym, refl, ap, ◌∙◌, subst, arith}
+use Rattle.std.proofs.Common.{◌≡◌, ℕ, ◌^◌, false, List, [], ◌∷◌, length, sym, refl, ap, ◌∙◌, subst, arith}
 use lib.Bits.{bit_or}
 use Rattle.tokens.specs.Tokens.{fixed, name, at, tokens_from}
 use Rattle.tokens.specs.Lexing.{with_token}

@@ -1,6 +1,6 @@
 -- The turns of the readers of lists and statements.
 use Rattle.std.proofs.Common.{◌≡◌, ℕ, ◌+◌, true, leb, List, [], ◌∷◌, set, sym, refl, ap, ◌∙◌, subst, arith}
-use Rattle.tokens.specs.Tokens.{Spot, name, number, fixed, at}
+use Rattle.tokens.specs.Tokens.{name, number, fixed, at}
 use Rattle.tokens.specs.declared.lexeme.Lexeme.TheVariants as lexeme
 use Rattle.grammar.specs.Trees as tree
 use Rattle.grammar.specs.Grammar.{sums, conds, statements, Bound, within, sum, cond, statement, list, Derives, a_skip, a_leave, an_assignment, an_if, a_while, a_hold}

@@ -1,19 +1,17 @@
 -- The turns of the readers: what a token does, and how readings of parts make the reading of a whole.
-use Rattle.std.proofs.Common.{◌≡◌, ℕ, zero, suc, ◌+◌, ◌-◌, ◌<◌, ◌≤◌, Bool, true, false, cond, List, [], ◌∷◌, ◌++◌, length, set, Some, None, Option, sym, refl, ap, ◌∙◌, subst, arith}
+use Rattle.std.proofs.Common.{◌≡◌, ℕ, zero, suc, ◌+◌, true, false, List, [], ◌∷◌, ◌++◌, length, set, Some, None, Option, sym, refl, ap, ◌∙◌, subst, arith}
 use Rattle.tokens.specs.Lexemes.{same_lexeme}
-use Rattle.tokens.specs.Tokens.{Symbol, name, number, fixed, stray, Spot, at, names_with, tokens_from}
+use Rattle.tokens.specs.Tokens.{Symbol, fixed, Spot, at, names_with, tokens_from}
 use Rattle.tokens.specs.Lexing.{symbol, placed, with_token}
 use Rattle.tokens.specs.declared.lexeme.Lexeme.{Lexeme}
-use Rattle.tokens.specs.declared.lexeme.Lexeme.TheVariants as lexeme
 use Rattle.tokens.specs.declared.token.Token.{Token}
 use Rattle.tokens.specs.declared.token.Token.TheVariants as token
 use Rattle.tokens.proofs.Lexemes.{same_lexemes, same_self}
 use Rattle.grammar.specs.Grammar.{Class, Tree, Sort, Bound, within, inside, Joined, joined_names, joined_sum, joined_term, joined_cond, joined_list, Joins, by_comma, by_plus, by_minus, by_times, by_and, by_semicolon, join, Derives, single, more}
-use Rattle.grammar.specs.Automaton.{Need, need, tail, this, Move, stop, over, go, when, deeper, joined, step, may_end, Verdict, misfit, limited, at_end, moved, judge}
+use Rattle.grammar.specs.Automaton.{Need, need, tail, this, Move, stop, over, go, when, deeper, joined, step, may_end, Verdict, misfit, at_end, moved, judge}
 use Rattle.grammar.proofs.Unique.{sized as fewer}
 use Rattle.rules.specs.Nodes.{node, size, nodes, written}
-use Rattle.rules.specs.Readers.{lexeme_of, is_lexeme, text_of, names_in, rest, current, Past, Wrote, said, verdict, Went, Fails, Got, WholeOf, PartOf}
-use Rattle.rules.specs.declared.fault.Fault.{Fault}
+use Rattle.rules.specs.Readers.{lexeme_of, is_lexeme, text_of, names_in, rest, current, Past, Wrote, said, verdict, Got, WholeOf, PartOf}
 use Rattle.rules.specs.declared.fault.Fault.TheVariants.{Misfit, Limit}
 use Rattle.rules.specs.declared.node.Kind.{Kind}
 use Rattle.rules.specs.declared.node.Node.{Node}

@@ -1,5 +1,5 @@
 -- The nodes of a tree, and the tables that hold them.
-use Rattle.std.specs.Prelude.{ℕ, ◌+◌, ◌-◌, true, false, List, [], ◌∷◌, ◌++◌, length, replicate, slice_set}
+use Rattle.std.specs.Prelude.{ℕ, ◌+◌, ◌-◌, true, false, List, [], ◌∷◌, ◌++◌, replicate, slice_set}
 use Rattle.grammar.specs.Trees as tree
 use Rattle.grammar.specs.Trees.{Operator, Relation, Sum, Cond, Statement, Rule}
 use Rattle.grammar.specs.Grammar.{Class, cells, sums, conds, statements, rules, Tree}

@@ -1,14 +1,14 @@
 -- What the readers of the code promise each other.
-use Rattle.std.specs.Prelude.{◌≡◌, ℕ, suc, ◌+◌, ◌^◌, ◌<◌, ◌≤◌, Bool, true, false, cond, ◌&&◌, leb, List, [], ◌∷◌, ◌++◌, length, set, ℤ, pos, Some, None, Ok, Err, Option, Result, nat_le, nat_lt, slice_set}
+use Rattle.std.specs.Prelude.{◌≡◌, ℕ, ◌+◌, ◌^◌, ◌<◌, ◌≤◌, Bool, true, false, cond, ◌&&◌, leb, List, [], ◌∷◌, ◌++◌, length, Some, None, Option, nat_le, nat_lt, slice_set}
 use Rattle.tokens.specs.Lexemes.{same_lexeme}
-use Rattle.tokens.specs.Tokens.{Symbol, name, number, fixed, Spot, at, cell_of, names_with, tokens_from}
+use Rattle.tokens.specs.Tokens.{Symbol, name, Spot, at, cell_of, names_with, tokens_from}
 use Rattle.tokens.specs.Lexing.{symbol, with_token}
 use Rattle.tokens.specs.declared.lexeme.Lexeme.{Lexeme}
 use Rattle.tokens.specs.declared.lexeme.Lexeme.TheVariants as lexeme
 use Rattle.tokens.specs.declared.token.Token.{Token}
 use Rattle.tokens.specs.declared.token.Token.TheVariants as token
 use Rattle.grammar.specs.Trees.{Rule}
-use Rattle.grammar.specs.Grammar.{Class, cells, rules, Tree, Sort, rule, Bound, within, limits, Derives}
+use Rattle.grammar.specs.Grammar.{Class, cells, rules, Tree, Sort, rule, within, limits, Derives}
 use Rattle.grammar.specs.Automaton.{Need, need, tail, Verdict, judge}
 use Rattle.grammar.specs.Automaton as automaton
 use Rattle.rules.specs.Names.{words_of}

@@ -1,5 +1,5 @@
 -- What reading a text into a table comes to.
-use Rattle.std.specs.Prelude.{◌≡◌, ℕ, ◌<◌, ◌≤◌, List, [], ◌∷◌, length, ◌≢◌}
+use Rattle.std.specs.Prelude.{◌≡◌, ℕ, ◌<◌, ◌≤◌, List, [], length, ◌≢◌}
 use Rattle.tokens.specs.Tokens.{tokens_of}
 use Rattle.grammar.specs.Trees.{Rule}
 use Rattle.grammar.specs.Grammar.{rules, limits, Whole, Misfit as Misfits, Passes}

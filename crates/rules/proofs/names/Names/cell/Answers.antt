@@ -1,4 +1,4 @@
-use Rattle.std.proofs.Common.{◌≡◌, ℕ, ◌+◌, ◌<◌, ◌≤◌, length, set, sym, ap, ◌∙◌, subst, arith, length-set}
+use Rattle.std.proofs.Common.{◌≡◌, ◌+◌, ◌<◌, ◌≤◌, length, set, ◌∙◌, subst, arith, length-set}
 use Rattle.tokens.specs.Tokens.{cell_of, with_name}
 use Rattle.rules.specs.Names.{words_of}
 use Rattle.rules.proofs.Numbering.{known_word, new_word}

@@ -1,4 +1,4 @@
-use Rattle.std.proofs.Common.{◌≡◌, ◌+◌, map, take, drop}
+use Rattle.std.proofs.Common.{◌≡◌, ◌+◌, drop}
 use Rattle.tokens.specs.Tokens.{cell_of}
 use Rattle.rules.specs.Names.{words_of}
 use Rattle.rules.proofs.names.Names.position.Given as goal

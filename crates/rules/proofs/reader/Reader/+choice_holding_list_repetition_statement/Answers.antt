@@ -2,7 +2,7 @@ use Rattle.std.proofs.Common.{◌∷◌, length, sym, refl, ap, ◌∙◌, arith
 use Rattle.std.proofs.lemmas.Result.{err_from_is_err_and}
 use Rattle.tokens.specs.declared.lexeme.Lexeme.TheVariants as lexeme
 use Rattle.grammar.specs.Grammar.{within, statement, list, joined_list, by_semicolon}
-use Rattle.grammar.specs.Automaton.{goal, tail, this, go}
+use Rattle.grammar.specs.Automaton.{need, tail, this, go}
 use Rattle.rules.specs.Readers.{lexeme_of}
 use Rattle.rules.proofs.Turns.{leaves, expected, start, start_fails, turn, turn_fails, finish}
 use Rattle.rules.proofs.StatementTurns.{skip_read, leave_read, after_test, after_first, after_second, loop_body, chooses, repeats, holds, latched, if_read, while_read, hold_read}
@@ -18,31 +18,31 @@ pub choice-returns-in_err-expect : goal.choice-returns-in_err-expect
 choice-returns-in_err-expect t c =
     let p = err_from_is_err_and c.from_residual-in_err-expect.result c.from_residual-in_err-expect.ensures.1 in
     let e = within c.in_ok-inner.inner in
-    rw (p.1, p.2) (λ k. chooses c.args.depth c.in_ok-inner.inner c.in_ok-inner.ensures (c.pass-place.ensures.past lexeme.If (sym c.requires.1.0)) k ∙ c.in_ok-test.ensures.goes (after_test e k) ∙ c.in_err-expect.ensures (goal list e ∷ after_first e k))
+    rw (p.1, p.2) (λ k. chooses c.args.depth c.in_ok-inner.inner c.in_ok-inner.ensures (c.pass-place.ensures.past lexeme.If (sym c.requires.1.0)) k ∙ c.in_ok-test.ensures.goes (after_test e k) ∙ c.in_err-expect.ensures (need list e ∷ after_first e k))
 
 pub choice-returns-in_err-first : goal.choice-returns-in_err-first
 choice-returns-in_err-first t c =
     let p = err_from_is_err_and c.from_residual-in_err-first.result c.from_residual-in_err-first.ensures.1 in
     let e = within c.in_ok-inner.inner in
-    rw (p.1, p.2) (λ k. chooses c.args.depth c.in_ok-inner.inner c.in_ok-inner.ensures (c.pass-place.ensures.past lexeme.If (sym c.requires.1.0)) k ∙ c.in_ok-test.ensures.goes (after_test e k) ∙ expected c.in_ok-expect.ensures (goal list e ∷ after_first e k) ∙ c.in_err-first.ensures (after_first e k))
+    rw (p.1, p.2) (λ k. chooses c.args.depth c.in_ok-inner.inner c.in_ok-inner.ensures (c.pass-place.ensures.past lexeme.If (sym c.requires.1.0)) k ∙ c.in_ok-test.ensures.goes (after_test e k) ∙ expected c.in_ok-expect.ensures (need list e ∷ after_first e k) ∙ c.in_err-first.ensures (after_first e k))
 
 pub choice-returns-in_err-expect-2 : goal.choice-returns-in_err-expect-2
 choice-returns-in_err-expect-2 t c =
     let p = err_from_is_err_and c.from_residual-in_err-expect-2.result c.from_residual-in_err-expect-2.ensures.1 in
     let e = within c.in_ok-inner.inner in
-    rw (p.1, p.2) (λ k. chooses c.args.depth c.in_ok-inner.inner c.in_ok-inner.ensures (c.pass-place.ensures.past lexeme.If (sym c.requires.1.0)) k ∙ c.in_ok-test.ensures.goes (after_test e k) ∙ expected c.in_ok-expect.ensures (goal list e ∷ after_first e k) ∙ c.in_ok-first.ensures.goes (after_first e k) ∙ c.in_err-expect-2.ensures (goal list e ∷ after_second k))
+    rw (p.1, p.2) (λ k. chooses c.args.depth c.in_ok-inner.inner c.in_ok-inner.ensures (c.pass-place.ensures.past lexeme.If (sym c.requires.1.0)) k ∙ c.in_ok-test.ensures.goes (after_test e k) ∙ expected c.in_ok-expect.ensures (need list e ∷ after_first e k) ∙ c.in_ok-first.ensures.goes (after_first e k) ∙ c.in_err-expect-2.ensures (need list e ∷ after_second k))
 
 pub choice-returns-in_err-second : goal.choice-returns-in_err-second
 choice-returns-in_err-second t c =
     let p = err_from_is_err_and c.from_residual-in_err-second.result c.from_residual-in_err-second.ensures.1 in
     let e = within c.in_ok-inner.inner in
-    rw (p.1, p.2) (λ k. chooses c.args.depth c.in_ok-inner.inner c.in_ok-inner.ensures (c.pass-place.ensures.past lexeme.If (sym c.requires.1.0)) k ∙ c.in_ok-test.ensures.goes (after_test e k) ∙ expected c.in_ok-expect.ensures (goal list e ∷ after_first e k) ∙ c.in_ok-first.ensures.goes (after_first e k) ∙ expected c.in_ok-expect-2.ensures (goal list e ∷ after_second k) ∙ c.in_err-second.ensures (after_second k))
+    rw (p.1, p.2) (λ k. chooses c.args.depth c.in_ok-inner.inner c.in_ok-inner.ensures (c.pass-place.ensures.past lexeme.If (sym c.requires.1.0)) k ∙ c.in_ok-test.ensures.goes (after_test e k) ∙ expected c.in_ok-expect.ensures (need list e ∷ after_first e k) ∙ c.in_ok-first.ensures.goes (after_first e k) ∙ expected c.in_ok-expect-2.ensures (need list e ∷ after_second k) ∙ c.in_err-second.ensures (after_second k))
 
 pub choice-returns-in_err-expect-3 : goal.choice-returns-in_err-expect-3
 choice-returns-in_err-expect-3 t c =
     let p = err_from_is_err_and c.from_residual-in_err-expect-3.result c.from_residual-in_err-expect-3.ensures.1 in
     let e = within c.in_ok-inner.inner in
-    rw (p.1, p.2) (λ k. chooses c.args.depth c.in_ok-inner.inner c.in_ok-inner.ensures (c.pass-place.ensures.past lexeme.If (sym c.requires.1.0)) k ∙ c.in_ok-test.ensures.goes (after_test e k) ∙ expected c.in_ok-expect.ensures (goal list e ∷ after_first e k) ∙ c.in_ok-first.ensures.goes (after_first e k) ∙ expected c.in_ok-expect-2.ensures (goal list e ∷ after_second k) ∙ c.in_ok-second.ensures.goes (after_second k) ∙ c.in_err-expect-3.ensures k)
+    rw (p.1, p.2) (λ k. chooses c.args.depth c.in_ok-inner.inner c.in_ok-inner.ensures (c.pass-place.ensures.past lexeme.If (sym c.requires.1.0)) k ∙ c.in_ok-test.ensures.goes (after_test e k) ∙ expected c.in_ok-expect.ensures (need list e ∷ after_first e k) ∙ c.in_ok-first.ensures.goes (after_first e k) ∙ expected c.in_ok-expect-2.ensures (need list e ∷ after_second k) ∙ c.in_ok-second.ensures.goes (after_second k) ∙ c.in_err-expect-3.ensures k)
 
 pub choice-returns : goal.choice-returns
 choice-returns t c = if_read c.in_ok-inner.ensures (c.pass-place.ensures.past lexeme.If (sym c.requires.1.0)) c.in_ok-test.ensures c.in_ok-expect.ensures c.in_ok-first.ensures c.in_ok-expect-2.ensures c.in_ok-second.ensures c.in_ok-expect-3.ensures c.pass-place.ensures.place c.put.ensures.wrote c.put.ensures.number
@@ -116,4 +116,4 @@ list-loop-self-preserved t c =
     )
 
 pub list-returns : goal.list-returns
-list-returns t c = finish (c.loop-self.invariant.1 c.args.self.now c.args.nodes.now (start joined_list c.in_ok-left.ensures)) (leaves list (within c.args.depth) lexeme.Semicolon (λ k. go (goal statement (within c.args.depth) ∷ tail list (within c.args.depth) ∷ k)) (λ n k v. refl) (lexeme_of c.loop-self.self.token) c.loop-self-test.ensures.value)
+list-returns t c = finish (c.loop-self.invariant.1 c.args.self.now c.args.nodes.now (start joined_list c.in_ok-left.ensures)) (leaves list (within c.args.depth) lexeme.Semicolon (λ k. go (need statement (within c.args.depth) ∷ tail list (within c.args.depth) ∷ k)) (λ n k v. refl) (lexeme_of c.loop-self.self.token) c.loop-self-test.ensures.value)

@@ -1,4 +1,4 @@
-use Rattle.std.proofs.Common.{ℕ, ◌+◌, ◌*◌, List, length}
+use Rattle.std.proofs.Common.{◌+◌, ◌*◌, List, length}
 use Rattle.grammar.specs.Grammar.{list}
 use Rattle.rules.specs.Readers.{rest, Roomy, PartOf}
 use Rattle.rules.specs.declared.node.Node.{Node}

@@ -2,7 +2,7 @@ use Rattle.std.proofs.Common.{◌∷◌, length, sym, refl, ap, ◌∙◌, arith
 use Rattle.std.proofs.lemmas.Result.{err_from_is_err_and}
 use Rattle.tokens.specs.declared.lexeme.Lexeme.TheVariants as lexeme
 use Rattle.grammar.specs.Grammar.{within, cond, prime, joined_cond, by_and}
-use Rattle.grammar.specs.Automaton.{goal, tail, this, go}
+use Rattle.grammar.specs.Automaton.{need, tail, this, go}
 use Rattle.rules.specs.Readers.{lexeme_of}
 use Rattle.rules.proofs.Turns.{leaves, start, start_fails, turn, turn_fails, finish}
 use Rattle.rules.proofs.CondTurns.{true_read, false_read, negated, not_read, squared, square}
@@ -29,7 +29,7 @@ cond-loop-self-preserved t c =
     )
 
 pub cond-returns : goal.cond-returns
-cond-returns t c = finish (c.loop-self.invariant.1 c.args.self.now c.args.nodes.now (start joined_cond c.in_ok-left.ensures)) (leaves cond (within c.args.depth) lexeme.And (λ k. go (goal prime (within c.args.depth) ∷ tail cond (within c.args.depth) ∷ k)) (λ n k v. refl) (lexeme_of c.loop-self.self.token) c.loop-self-test.ensures.value)
+cond-returns t c = finish (c.loop-self.invariant.1 c.args.self.now c.args.nodes.now (start joined_cond c.in_ok-left.ensures)) (leaves cond (within c.args.depth) lexeme.And (λ k. go (need prime (within c.args.depth) ∷ tail cond (within c.args.depth) ∷ k)) (λ n k v. refl) (lexeme_of c.loop-self.self.token) c.loop-self-test.ensures.value)
 
 pub prime-returns-then-is : goal.prime-returns-then-is
 prime-returns-then-is t c = true_read (c.pass-place.ensures.past lexeme.True (sym c.if-is.ensures.value)) c.pass-place.ensures.place c.put.ensures.wrote c.put.ensures.number

@@ -1,34 +1,34 @@
 use Rattle.std.proofs.Common.{◌∷◌, length, sym, refl, ap, ◌∙◌, arith, to_z-of_z, w64, SFits, rules}
 use Rattle.std.proofs.lemmas.Result.{err_from_is_err_and}
 use Rattle.tokens.specs.declared.lexeme.Lexeme.TheVariants as lexeme
-use Rattle.grammar.specs.Grammar.{within, sum, term, factor, joined_sum, joined_term, by_times}
-use Rattle.grammar.specs.Automaton.{goal, tail, this, go}
+use Rattle.grammar.specs.Grammar.{within, term, factor, joined_sum, joined_term, by_times}
+use Rattle.grammar.specs.Automaton.{need, tail, this, go}
 use Rattle.rules.specs.Readers.{lexeme_of}
 use Rattle.rules.proofs.Turns.{leaves, start, start_fails, turn, turn_fails, finish}
 use Rattle.rules.proofs.SumTurns.{picked, leaves_sum, number_read, name_read, opened, round}
 use Rattle.rules.proofs.reader.Reader.+factor_sum_term.Goals as goal
 
-pub factor-returns-in_err-root : goal.factor-returns-in_err-root
-factor-returns-in_err-root t c =
-    let p = err_from_is_err_and c.from_residual-in_err-root.result c.from_residual-in_err-root.ensures.1 in
-    rw (p.1, p.2) (λ k. opened c.args.depth c.in_ok-inner.inner c.in_ok-inner.ensures (c.pass.ensures.past lexeme.Open (sym c.if-not-is.ensures.value)) k ∙ c.in_err-root.ensures (this lexeme.Close ∷ k))
+pub factor-returns-in_err-root-in_default : goal.factor-returns-in_err-root-in_default
+factor-returns-in_err-root-in_default t c =
+    let p = err_from_is_err_and c.from_residual-in_err-root-in_default.result c.from_residual-in_err-root-in_default.ensures.1 in
+    rw (p.1, p.2) (λ k. opened c.args.depth c.in_ok-inner-in_default.inner c.in_ok-inner-in_default.ensures (c.pass.ensures.past lexeme.Open (sym c.if-not-is.ensures.value)) k ∙ c.in_err-root-in_default.ensures (this lexeme.Close ∷ k))
 
-pub factor-returns-in_err-expect : goal.factor-returns-in_err-expect
-factor-returns-in_err-expect t c =
-    let p = err_from_is_err_and c.from_residual-in_err-expect.result c.from_residual-in_err-expect.ensures.1 in
-    rw (p.1, p.2) (λ k. opened c.args.depth c.in_ok-inner.inner c.in_ok-inner.ensures (c.pass.ensures.past lexeme.Open (sym c.if-not-is.ensures.value)) k ∙ c.in_ok-root.ensures.goes (this lexeme.Close ∷ k) ∙ c.in_err-expect.ensures k)
+pub factor-returns-in_err-expect-in_default : goal.factor-returns-in_err-expect-in_default
+factor-returns-in_err-expect-in_default t c =
+    let p = err_from_is_err_and c.from_residual-in_err-expect-in_default.result c.from_residual-in_err-expect-in_default.ensures.1 in
+    rw (p.1, p.2) (λ k. opened c.args.depth c.in_ok-inner-in_default.inner c.in_ok-inner-in_default.ensures (c.pass.ensures.past lexeme.Open (sym c.if-not-is.ensures.value)) k ∙ c.in_ok-root-in_default.ensures.goes (this lexeme.Close ∷ k) ∙ c.in_err-expect-in_default.ensures k)
 
-pub factor-returns-in_ok-value : goal.factor-returns-in_ok-value
-factor-returns-in_ok-value t c =
-    let n = c.in_ok-value.ensures in
-    let f : SFits w64 c.in_ok-value.value = search rules in
+pub factor-returns-in_ok-value-in-Number : goal.factor-returns-in_ok-value-in-Number
+factor-returns-in_ok-value-in-Number t c =
+    let n = c.in_ok-value-in-Number.ensures in
+    let f : SFits w64 c.in_ok-value-in-Number.value = search rules in
     number_read (to_z-of_z f ∙ n.0) n.1 n.2 c.put.ensures.wrote c.put.ensures.number
 
-pub factor-returns-in_ok-cell : goal.factor-returns-in_ok-cell
-factor-returns-in_ok-cell t c = name_read c.in_ok-cell.ensures c.put-in-Name.ensures.wrote c.put-in-Name.ensures.number
+pub factor-returns-in_ok-cell-in-Name : goal.factor-returns-in_ok-cell-in-Name
+factor-returns-in_ok-cell-in-Name t c = name_read c.in_ok-cell-in-Name.ensures c.put-in-Name.ensures.wrote c.put-in-Name.ensures.number
 
-pub factor-returns-in_ok-expect : goal.factor-returns-in_ok-expect
-factor-returns-in_ok-expect t c = round c.in_ok-inner.ensures (c.pass.ensures.past lexeme.Open (sym c.if-not-is.ensures.value)) c.in_ok-root.ensures c.in_ok-expect.ensures
+pub factor-returns-in_ok-expect-in_default : goal.factor-returns-in_ok-expect-in_default
+factor-returns-in_ok-expect-in_default t c = round c.in_ok-inner-in_default.ensures (c.pass.ensures.past lexeme.Open (sym c.if-not-is.ensures.value)) c.in_ok-root-in_default.ensures c.in_ok-expect-in_default.ensures
 
 pub sum-returns-in_err-left : goal.sum-returns-in_err-left
 sum-returns-in_err-left t c =
@@ -76,4 +76,4 @@ term-loop-self-preserved t c =
     )
 
 pub term-returns : goal.term-returns
-term-returns t c = finish (c.loop-self.invariant.1 c.args.self.now c.args.nodes.now (start joined_term c.in_ok-left.ensures)) (leaves term (within c.args.depth) lexeme.Times (λ k. go (goal factor (within c.args.depth) ∷ tail term (within c.args.depth) ∷ k)) (λ n k v. refl) (lexeme_of c.loop-self.self.token) c.loop-self-test.ensures.value)
+term-returns t c = finish (c.loop-self.invariant.1 c.args.self.now c.args.nodes.now (start joined_term c.in_ok-left.ensures)) (leaves term (within c.args.depth) lexeme.Times (λ k. go (need factor (within c.args.depth) ∷ tail term (within c.args.depth) ∷ k)) (λ n k v. refl) (lexeme_of c.loop-self.self.token) c.loop-self-test.ensures.value)

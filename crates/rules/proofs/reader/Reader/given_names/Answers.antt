@@ -2,7 +2,7 @@ use Rattle.std.proofs.Common.{◌∷◌, sym, refl}
 use Rattle.std.proofs.lemmas.Result.{err_from_is_err_and}
 use Rattle.tokens.specs.declared.lexeme.Lexeme.TheVariants as lexeme
 use Rattle.grammar.specs.Grammar.{limits, given_name, given_names, joined_names}
-use Rattle.grammar.specs.Automaton.{goal, tail, go}
+use Rattle.grammar.specs.Automaton.{need, tail, go}
 use Rattle.rules.specs.Readers.{lexeme_of}
 use Rattle.rules.proofs.Turns.{leaves, start_fails}
 use Rattle.rules.proofs.GivenTurns.{given_start, given_turn, given_turn_fails, given_finish}
@@ -22,4 +22,4 @@ pub loop-self-preserved : goal.loop-self-preserved
 loop-self-preserved c = λ r g. given_turn (c.loop-self.invariant r g) (c.pass.ensures.past lexeme.Comma (sym c.loop-self-test.ensures.value)) c.in_ok-another.ensures
 
 pub returns : goal.returns
-returns c = given_finish (c.loop-self.invariant c.args.self.now (given_start c.in_ok-given.ensures)) (leaves given_names limits lexeme.Comma (λ k. go (goal given_name limits ∷ tail given_names limits ∷ k)) (λ n k v. refl) (lexeme_of c.loop-self.self.token) c.loop-self-test.ensures.value)
+returns c = given_finish (c.loop-self.invariant c.args.self.now (given_start c.in_ok-given.ensures)) (leaves given_names limits lexeme.Comma (λ k. go (need given_name limits ∷ tail given_names limits ∷ k)) (λ n k v. refl) (lexeme_of c.loop-self.self.token) c.loop-self-test.ensures.value)
