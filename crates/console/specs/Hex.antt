@@ -1,6 +1,6 @@
 -- Bytes in hexadecimal: two digits in small letters for each byte, the high one first.
 use Rattle.std.specs.Prelude.{◌≡◌, ℕ, ◌+◌, ◌-◌, ◌*◌, ◌/◌, ◌%◌, ◌<◌, cond, ◌&&◌, List, [], ◌∷◌, length, Some, None, Option, ◌≢◌, nat_le, nat_lt}
-use Rattle.std.specs.List.{flat_map, AllByRecursion as All}
+use Rattle.std.specs.List.{flat_map, AllByRecursion}
 
 -- the value of a hexadecimal digit
 abbrev pub digit_value : ℕ → Option ℕ
@@ -38,4 +38,4 @@ hex_of bytes = flat_map (λ b. digit_of (b / 16) ∷ digit_of (b % 16) ∷ []) b
 
 -- bytes that were written are read back
 abbrev pub ReadsBack : Type 0
-ReadsBack = (bytes : List ℕ) → All (λ b. b < 256) bytes → bytes_of (hex_of bytes) ≡ Some bytes
+ReadsBack = (bytes : List ℕ) → AllByRecursion (λ b. b < 256) bytes → bytes_of (hex_of bytes) ≡ Some bytes

@@ -1,7 +1,7 @@
 -- Lines, and the words that single spaces part.
 use Rattle.std.specs.Prelude.{◌≡◌, ℕ, ◌-◌, ◌<◌, Bool, true, cond, List, [], ◌∷◌, ◌++◌, length, take, Some, None, Option, ◌==◌, ◌≢◌, slice_index}
 use Rattle.std.specs.Option.{option_map, unwrap_or}
-use Rattle.std.specs.List.{AllByRecursion as All}
+use Rattle.std.specs.List.{AllByRecursion}
 use Rattle.console.specs.declared.words.Words.{Words}
 
 -- a line without the line feed that ends it, if one does
@@ -49,7 +49,7 @@ spaced (word ∷ next ∷ words) = word ++ 32 ∷ spaced (next ∷ words)
 
 -- the words of a line have no space in them, and are the line again with a single space between two
 abbrev pub WordsPartLines : Type 0
-WordsPartLines = (line : List ℕ) → (spaced (words_of line) ≡ line) × All Unspaced (words_of line)
+WordsPartLines = (line : List ℕ) → (spaced (words_of line) ≡ line) × AllByRecursion Unspaced (words_of line)
 
 -- what is left of the line after the words that were taken
 abbrev pub text_left : Words → Option (List ℕ)
