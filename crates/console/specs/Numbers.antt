@@ -1,5 +1,5 @@
 -- The numbers that words of decimal digits write.
-use Rattle.std.specs.Prelude.{ℕ, ◌+◌, ◌-◌, ◌*◌, ◌^◌, Bool, true, cond, ◌&&◌, ltb, leb, List, [], ◌∷◌, ℤ, pos, neg_ℤ, Some, None, Option, ◌==◌, nat_le, nat_lt}
+use Rattle.std.specs.Prelude.{ℕ, ◌+◌, ◌-◌, ◌*◌, ◌^◌, Bool, true, cond, ◌&&◌, nat_lt, nat_le, List, [], ◌∷◌, ℤ, pos, neg_ℤ, Some, None, Option, ◌==◌}
 use Rattle.std.specs.Option.{option_map}
 
 -- whether a byte is one of the digits 0 to 9
@@ -31,10 +31,10 @@ with_digit n b = cond (is_digit b && nat_lt (n * 10 + (b - 48)) (2 ^ 64)) (Some 
 
 -- an unsigned number has 64 bits
 abbrev pub unsigned_of : List ℕ → Option ℕ
-unsigned_of word = number (λ n. ltb n (2 ^ 64)) word
+unsigned_of word = number (λ n. nat_lt n (2 ^ 64)) word
 
 -- a signed number is from -2^63 to 2^63 - 1, and a negative one has a '-' before its digits
 abbrev pub signed_of : List ℕ → Option ℤ
 signed_of [] = None
 signed_of (b ∷ bs) =
-    cond (b == 45) (option_map (λ n. neg_ℤ (pos n)) (number (λ n. leb n (2 ^ 63)) bs)) (option_map pos (number (λ n. ltb n (2 ^ 63)) (b ∷ bs)))
+    cond (b == 45) (option_map (λ n. neg_ℤ (pos n)) (number (λ n. nat_le n (2 ^ 63)) bs)) (option_map pos (number (λ n. nat_lt n (2 ^ 63)) (b ∷ bs)))

@@ -1,5 +1,5 @@
 -- What the readers of the code promise each other.
-use Rattle.std.specs.Prelude.{◌≡◌, ℕ, ◌+◌, ◌^◌, ◌<◌, ◌≤◌, Bool, true, false, cond, ◌&&◌, leb, List, [], ◌∷◌, ◌++◌, length, Some, None, Option, nat_le, nat_lt, slice_set}
+use Rattle.std.specs.Prelude.{◌≡◌, ℕ, ◌+◌, ◌^◌, ◌<◌, ◌≤◌, Bool, true, false, cond, ◌&&◌, nat_le, List, [], ◌∷◌, ◌++◌, length, Some, None, Option, nat_lt, slice_set}
 use Rattle.tokens.specs.Lexemes.{same_lexeme}
 use Rattle.tokens.specs.Tokens.{Symbol, name, Spot, at, cell_of, names_with, tokens_from}
 use Rattle.tokens.specs.Lexing.{symbol, with_token}
@@ -161,7 +161,7 @@ PartOf X d r q root old new = Got X d (tail X (within d) ∷ []) r q root old ne
 -- a name was read, of that cell
 pub record Named (cell : ℕ) (r q : Reader) : Type 0 where
   pub word : List ℕ
-  pub fits : leb (length word) 12 && nat_lt cell 32 ≡ true
+  pub fits : nat_le (length word) 12 && nat_lt cell 32 ≡ true
   pub past : Past (name word cell) r q
   pub small : cell < 32
 

@@ -1,5 +1,5 @@
 // How a reader takes tokens and writes nodes.
-ghost use Rattle.std.specs.Prelude.{◌≡◌, ◌+◌, ◌-◌, ◌^◌, ◌<◌, true, false, ltb, leb, length, pos, if◌then◌else◌, Some, None, Ok, Err, MatchResult, nat_le, nat_lt};
+ghost use Rattle.std.specs.Prelude.{◌≡◌, ◌+◌, ◌-◌, ◌^◌, ◌<◌, true, false, nat_lt, nat_le, length, pos, if◌then◌else◌, Some, None, Ok, Err, MatchResult};
 ghost use Rattle.console.specs.Numbers.{value_after};
 ghost use Rattle.tokens.specs.Tokens.{tokens_of, fixed, number};
 ghost use Rattle.tokens.specs.Lexing.{some_digits};
@@ -36,7 +36,7 @@ pub(crate) fn deeper(depth: u8, place: usize) -> Result<u8, Fault>
 // The value of digits, where a number may have it.
 fn literal(digits: &[u8]) -> Option<i64>
     requires { some_digits digits.now ≡ true }
-    ensures { result ≡ (if ltb (value_after 0 digits.now) (2 ^ 63) then Some (pos (value_after 0 digits.now)) else None) }
+    ensures { result ≡ (if nat_lt (value_after 0 digits.now) (2 ^ 63) then Some (pos (value_after 0 digits.now)) else None) }
 {
     i64::try_from(unsigned(digits)?).ok()
 }
@@ -44,7 +44,7 @@ fn literal(digits: &[u8]) -> Option<i64>
 // The value of digits, where a latch may have it.
 fn latch_number(digits: &[u8]) -> Option<usize>
     requires { some_digits digits.now ≡ true }
-    ensures { result ≡ (if leb (value_after 0 digits.now) 7 then Some (value_after 0 digits.now) else None) }
+    ensures { result ≡ (if nat_le (value_after 0 digits.now) 7 then Some (value_after 0 digits.now) else None) }
 {
     match unsigned(digits) {
         Some(k) if k <= LAST_LATCH => Some(k as usize),
