@@ -1,29 +1,20 @@
-use std::fmt;
+use thiserror::Error;
 
 // What is wrong with the words after a keyword.
-#[derive(Clone, Copy)]
+#[derive(Clone, Copy, Debug, PartialEq, Eq, Error)]
 pub enum Fault {
+    #[error("a word is missing")]
     WordMissing,
+    #[error("there are words too many, or a space too many")]
     WordsLeft,
+    #[error("a number from 0 to 18446744073709551615 is wanted")]
     NotUnsigned,
+    #[error("a number from -9223372036854775808 to 9223372036854775807 is wanted")]
     NotSigned,
+    #[error("HEX is two digits for each byte, 0 to 9 and a to f")]
     NotHex,
+    #[error("a window's base is a number from 0 to 255")]
     NotBase,
+    #[error("there is no such room")]
     NoSuchRoom,
-}
-
-impl fmt::Display for Fault {
-    fn fmt<W: fmt::Write>(&self, f: &mut fmt::Formatter<W>) -> fmt::Result {
-        match self {
-            Fault::WordMissing => f.write_str("a word is missing"),
-            Fault::WordsLeft => f.write_str("there are words too many, or a space too many"),
-            Fault::NotUnsigned => f.write_str("a number from 0 to 18446744073709551615 is wanted"),
-            Fault::NotSigned => f.write_str(
-                "a number from -9223372036854775808 to 9223372036854775807 is wanted",
-            ),
-            Fault::NotHex => f.write_str("HEX is two digits for each byte, 0 to 9 and a to f"),
-            Fault::NotBase => f.write_str("a window's base is a number from 0 to 255"),
-            Fault::NoSuchRoom => f.write_str("there is no such room"),
-        }
-    }
 }

@@ -1,11 +1,13 @@
 ghost use Rattle.std.specs.Prelude.{◌≡◌};
+ghost use Rattle.std.specs.Option.{ok_or};
 ghost use Rattle.commands.specs.Commands.{keyword_of};
+ghost use Rattle.commands.specs.declared.command.Misread.TheVariants.{NoSuchCommand};
 
-use crate::word::spells;
+use crate::command::Misread;
 use std::fmt;
 
 // The first word of each command.
-#[derive(Clone, Copy)]
+#[derive(Clone, Copy, Debug, PartialEq, Eq)]
 pub enum Keyword {
     Room,
     Record,
@@ -18,31 +20,24 @@ pub enum Keyword {
     Give,
 }
 
-impl Keyword {
-    // The keyword that a word is.
-    pub fn of(word: &[u8]) -> Option<Keyword>
-        ensures { result ≡ keyword_of word.now }
-    {
-        if spells(word, b"room") {
-            Some(Keyword::Room)
-        } else if spells(word, b"record") {
-            Some(Keyword::Record)
-        } else if spells(word, b"size") {
-            Some(Keyword::Size)
-        } else if spells(word, b"held") {
-            Some(Keyword::Held)
-        } else if spells(word, b"look") {
-            Some(Keyword::Look)
-        } else if spells(word, b"put") {
-            Some(Keyword::Put)
-        } else if spells(word, b"clear") {
-            Some(Keyword::Clear)
-        } else if spells(word, b"take") {
-            Some(Keyword::Take)
-        } else if spells(word, b"give") {
-            Some(Keyword::Give)
-        } else {
-            None
+// The keyword that a word is.
+impl TryFrom<&[u8]> for Keyword {
+    type Error = Misread;
+
+    ghost try_from_gives = { λ word read. read ≡ ok_or (keyword_of word.now) NoSuchCommand };
+
+    fn try_from(word: &[u8]) -> Result<Keyword, Misread> {
+        match word {
+            b"room" => Ok(Keyword::Room),
+            b"record" => Ok(Keyword::Record),
+            b"size" => Ok(Keyword::Size),
+            b"held" => Ok(Keyword::Held),
+            b"look" => Ok(Keyword::Look),
+            b"put" => Ok(Keyword::Put),
+            b"clear" => Ok(Keyword::Clear),
+            b"take" => Ok(Keyword::Take),
+            b"give" => Ok(Keyword::Give),
+            _ => Err(Misread::NoSuchCommand),
         }
     }
 }
@@ -50,18 +45,18 @@ impl Keyword {
 // How the command is written.
 impl fmt::Display for Keyword {
     fn fmt<W: fmt::Write>(&self, f: &mut fmt::Formatter<W>) -> fmt::Result {
-        match self {
-            Keyword::Room => f.write_str(
-                "room slot, room record HEX, room window B slot or room window B record HEX",
-            ),
-            Keyword::Record => f.write_str("record"),
-            Keyword::Size => f.write_str("size"),
-            Keyword::Held => f.write_str("held K"),
-            Keyword::Look => f.write_str("look C"),
-            Keyword::Put => f.write_str("put C V"),
-            Keyword::Clear => f.write_str("clear C"),
-            Keyword::Take => f.write_str("take K"),
-            Keyword::Give => f.write_str("give K"),
-        }
+        f.write_str(match self {
+            Keyword::Room => {
+                "room slot, room record HEX, room window B slot or room window B record HEX"
+            }
+            Keyword::Record => "record",
+            Keyword::Size => "size",
+            Keyword::Held => "held K",
+            Keyword::Look => "look C",
+            Keyword::Put => "put C V",
+            Keyword::Clear => "clear C",
+            Keyword::Take => "take K",
+            Keyword::Give => "give K",
+        })
     }
 }

@@ -1,11 +1,11 @@
 // Which line is which command.
 #![tactic(auto)]
 
+mod arguments;
 mod command;
 mod fault;
 mod keyword;
 mod read;
-mod word;
 
 pub use command::{Command, Misread, RoomChoice, RoomKind};
 pub use fault::Fault;

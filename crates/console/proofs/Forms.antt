@@ -1,12 +1,10 @@
 -- The forms of a TEXT, byte by byte. Assumes nothing.
-use Rattle.std.proofs.Common.{◌≡◌, ℕ, ◌+◌, ◌<◌, ◌≤◌, min, cond, ltb, List, [], ◌∷◌, ◌++◌, length, get_or, take, drop, set, is_some, Some, None, Option, sym, refl, ap, ◌∙◌, ⊎_elim, append_assoc, arith}
+use Rattle.std.proofs.Common.{◌≡◌, ℕ, ◌+◌, ◌<◌, ◌≤◌, min, cond, ltb, List, [], ◌∷◌, ◌++◌, length, take, drop, set, is_some, Some, None, Option, sym, refl, ap, ◌∙◌, ⊎_elim, append_assoc, arith}
 use Rattle.std.specs.Option.{option_map}
 use Rattle.std.proofs.lemmas.List.{append-nil, drop-drop, drop-set-lt, length-set, length-take, length-take-le, nil_from_length, take_all, take-append-le, take_more_set}
 use Rattle.std.proofs.lemmas.Bool.{cases_eq, cases_lt, eq-eqb, le-ltb, lt-ltb, ne_eqb}
-use Rattle.std.proofs.lemmas.Bool.Decides.{nat_tests}
 use Rattle.console.specs.Hex.{before}
 use Rattle.console.specs.Text.{coded_byte, escaped_byte, text_of, behind_backslash, behind_x, Begins}
-use Rattle.console.proofs.Bytes.{kept_some}
 
 -- a form stands for one byte, and is at least as long
 before_fits : (b : Option ℕ) (o : Option (List ℕ)) (n : ℕ) → ((t : List ℕ) → o ≡ Some t → length t ≤ n) → (t : List ℕ) → before b o ≡ Some t → length t ≤ n + 1
@@ -39,33 +37,13 @@ mutual
       let h = before_fits (coded_byte high low) (text_of bs) (length bs) (texts_fit bs) t e in omega arith
 
 -- each form at the front of what is written
-pub coded_begins : (written : List ℕ) (b : ℕ) → 4 ≤ length written → get_or written 0 0 ≡ 92 → get_or written 1 0 ≡ 120 → Some b ≡ coded_byte (get_or written 2 0) (get_or written 3 0) → Begins written b (drop 4 written)
-coded_begins [] b h first x e = absurd (omega arith)
-coded_begins (b₀ ∷ []) b h first x e = absurd (omega arith)
-coded_begins (b₀ ∷ b₁ ∷ []) b h first x e = absurd (omega arith)
-coded_begins (b₀ ∷ b₁ ∷ high ∷ []) b h first x e = absurd (omega arith)
-coded_begins (b₀ ∷ b₁ ∷ high ∷ low ∷ bs) b h first x e =
-    (rw (eq-eqb b₀ 92 first, eq-eqb b₁ 120 x, ← e) refl, omega arith)
-
-escaped_is_not_x : (b c : ℕ) → Some b ≡ escaped_byte c → c ≡ 120 → ⊥
-escaped_is_not_x b c e x = grind (arith, nat_tests)
-
-pub escaped_begins : (written : List ℕ) (b : ℕ) → 2 ≤ length written → get_or written 0 0 ≡ 92 → Some b ≡ escaped_byte (get_or written 1 0) → Begins written b (drop 2 written)
-escaped_begins [] b h first e = absurd (omega arith)
-escaped_begins (b₀ ∷ []) b h first e = absurd (omega arith)
-escaped_begins (b₀ ∷ b₁ ∷ bs) b h first e =
-    (rw (eq-eqb b₀ 92 first, ne_eqb b₁ 120 (escaped_is_not_x b b₁ e), ← e) refl, omega arith)
-
-pub itself_begins : (written : List ℕ) → 1 ≤ length written → (get_or written 0 0 ≡ 92 → ⊥) → Begins written (get_or written 0 0) (drop 1 written)
-itself_begins [] h other = absurd (omega arith)
-itself_begins (b ∷ bs) h other = (rw (ne_eqb b 92 other) refl, omega arith)
-
 kept_mapped : (f g : List ℕ → List ℕ) (b : ℕ) (o : Option (List ℕ)) → ((text : List ℕ) → f text ≡ g (b ∷ text)) → option_map f o ≡ option_map g (before (Some b) o)
 kept_mapped f g b None h = refl
 kept_mapped f g b (Some text) h = ap Some (h text)
 
-pub some_after : (rest after : List ℕ) (b : ℕ) → Begins rest b after → is_some (text_of after) ≡ is_some (text_of rest)
-some_after rest after b begins = kept_some b (text_of after) ∙ ap is_some (sym begins.0)
+pub is_some_mapped : (f : List ℕ → ℕ) (o : Option (List ℕ)) → is_some (option_map f o) ≡ is_some o
+is_some_mapped f None = refl
+is_some_mapped f (Some text) = refl
 
 -- the first n bytes of `out` and a text behind them, as far as there is room
 abbrev pub held : ℕ → List ℕ → ℕ → List ℕ → List ℕ
@@ -83,17 +61,6 @@ pub record Filling (room : ℕ) (whole : Option (List ℕ)) (old out : List ℕ)
   pub within : n ≤ length out
   pub filled : option_map (held room out n) (text_of rest) ≡ option_map (take room) whole
   pub kept : drop n out ≡ drop n old
-
-none_held : (room : ℕ) (out : List ℕ) (o : Option (List ℕ)) → option_map (held room out 0) o ≡ option_map (take room) o
-none_held room out None = refl
-none_held room out (Some text) = refl
-
-pub fill_first : (room : ℕ) (written out : List ℕ) → Filling room (text_of written) out out 0 written
-fill_first room written out = record {
-  within = omega arith;
-  filled = none_held room out (text_of written);
-  kept = refl;
-}
 
 -- one more byte's form is read, and at the end none is left
 module _ (room : ℕ) (whole : Option (List ℕ)) (old out : List ℕ) (n : ℕ) (rest : List ℕ) (long : length out ≡ room) (inv : Filling room whole old out n rest) where

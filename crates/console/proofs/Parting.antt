@@ -1,9 +1,9 @@
 -- The words of a line, by its first word and the rest. Assumes nothing.
-use Rattle.std.proofs.Common.{◌≡◌, ℕ, zero, suc, ◌<◌, List, [], ◌∷◌, ◌++◌, length, get_or, drop, Some, None, Option, unwrap_or, sym, refl, ap, ◌∙◌, ⊎_elim, arith}
+use Rattle.std.proofs.Common.{◌≡◌, MatchOption, ℕ, zero, suc, ◌+◌, ◌<◌, ◌≤◌, List, [], ◌∷◌, ◌++◌, length, get_or, take, drop, Some, None, Option, unwrap_or, Bor, sym, refl, ap, ◌∙◌, ⊎_elim, length-take, take_all, take-append-drop, arith}
 use Rattle.std.specs.Option.{option_map}
-use Rattle.std.proofs.lemmas.List.{append-nil, length-append, get_or_append_left, get_or_at, nil_from_length}
+use Rattle.std.proofs.lemmas.List.{get_or-take, drop_more}
 use Rattle.std.proofs.lemmas.Bool.{cases_eq, eq-eqb, ne_eqb}
-use Rattle.console.specs.Words.{Unspaced, BehindFirst, Split, words_of, spaced, first, Took, WordsPartLines}
+use Rattle.console.specs.Words.{Unspaced, Split, words_of, spaced, WordsPartLines}
 
 unspaced_more : (b : ℕ) (word : List ℕ) → (b ≡ 32 → ⊥) → Unspaced word → Unspaced (b ∷ word)
 unspaced_more b word other u zero h e = other e
@@ -33,39 +33,27 @@ word_then (b ∷ bs) rest u =
     let other = ne_eqb b 32 (u 0 (omega arith)) in
     let e = word_then bs rest (λ k h. u (suc k) (omega arith)) in rw other (cc)
 
-abbrev words_in : Option (List ℕ) → List (List ℕ)
+-- the words of what is left
+abbrev pub words_in : Option (List ℕ) → List (List ℕ)
 words_in text = unwrap_or (option_map words_of text) []
 
-split_words : (line word : List ℕ) (rest : Option (List ℕ)) → Split line word rest → words_of line ≡ word ∷ words_in rest
+pub split_words : (line word : List ℕ) (rest : Option (List ℕ)) → Split line word rest → words_of line ≡ word ∷ words_in rest
 split_words line word None s = ap words_of s.1 ∙ last_word word s.0
 split_words line word (Some rest) s = ap words_of s.1 ∙ word_then word rest s.0
 
 -- a line that is cut after n bytes, before its first space or at its end
-module _ (line word back : List ℕ) (n : ℕ) (long : length word ≡ n) (before : (k : ℕ) → k < n → get_or line k 0 ≡ 32 → ⊥) (found : n < length line → get_or line n 0 ≡ 32) (whole : line ≡ word ++ back) where
-  unspaced_front : Unspaced word
+module _ (line : List ℕ) (n : ℕ) (within : n ≤ length line) (before : (k : ℕ) → k < n → get_or line k 0 ≡ 32 → ⊥) (found : n < length line → get_or line n 0 ≡ 32) where
+  unspaced_front : Unspaced (take n line)
   unspaced_front k h e =
-      before k (omega arith) (ap (λ l. get_or l k 0) whole ∙ get_or_append_left word back 0 k h ∙ e)
+      let in_front : k < n = omega (arith, h, length-take n line) in
+      before k in_front (sym (get_or-take n line k 0 in_front) ∙ e)
 
-  at_space : (b : ℕ) (after : List ℕ) → back ≡ b ∷ after → line ≡ word ++ 32 ∷ after
-  at_space b after e =
-      let parts : line ≡ word ++ b ∷ after = whole ∙ ap (λ l. word ++ l) e in
-      let inside : n < length line = omega (arith, simp length-append at (ap length parts)) in
-      let space : b ≡ 32 = sym (ap (λ l. get_or l n 0) parts ∙ get_or_at word b after 0 n long) ∙ found inside in
-      parts ∙ ap (λ x. word ++ x ∷ after) space
-
-  pub split_at : (rest : Option (List ℕ)) → BehindFirst back rest → Split line word rest
-  split_at None e =
-      (unspaced_front, whole ∙ ap (λ l. word ++ l) (nil_from_length back e) ∙ append-nil word)
-  split_at (Some after) e = (unspaced_front, at_space e.0 after e.1)
-
--- to take a word off the text is to take one off the words
-pub took_words : (text word after : Option (List ℕ)) → Took text word after → (word ≡ first (words_in text)) × (words_in after ≡ drop 1 (words_in text))
-took_words None word after t = (t.0, ap words_in t.1)
-took_words (Some line) None after t = absurd t
-took_words (Some line) (Some word) after t =
-    let e = split_words line word after t in (sym (ap first e), sym (ap (drop 1) e))
+  pub cut : (rest : Option (Bor (List ℕ))) → MatchOption rest (length line ≤ n) (λ after. (n < length line) × (after.now ≡ drop (n + 1) line)) → Split line (take n line) (option_map (λ x. x.now) rest)
+  cut None at = (unspaced_front, sym (take_all n line at))
+  cut (Some after) at =
+      (unspaced_front, rw at.1 (sym (take-append-drop n line) ∙ ap (λ l. take n line ++ l) (drop_more line n 0 at.0 ∙ ap (λ b. b ∷ drop (n + 1) line) (found at.0))))
 
 -- what is left is its words again
-pub words_again : (text : Option (List ℕ)) → unwrap_or text [] ≡ spaced (words_in text)
-words_again None = refl
-words_again (Some line) = sym (parted line).0
+pub words_again : (text : Option (List ℕ)) (left : List ℕ) → left ≡ unwrap_or text [] → left ≡ spaced (words_in text)
+words_again None left e = e
+words_again (Some line) left e = e ∙ sym (parted line).0

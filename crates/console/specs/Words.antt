@@ -1,5 +1,5 @@
 -- Lines, and the words that single spaces part.
-use Rattle.std.specs.Prelude.{◌≡◌, ℕ, ◌-◌, ◌<◌, Bool, true, cond, List, [], ◌∷◌, ◌++◌, length, take, Some, None, Option, ◌==◌, ◌≢◌, slice_index}
+use Rattle.std.specs.Prelude.{◌≡◌, ℕ, ◌-◌, ◌<◌, All, Bool, true, cond, List, [], ◌∷◌, ◌++◌, length, take, Some, None, Option, ◌==◌, ◌≢◌, slice_index}
 use Rattle.std.specs.Option.{option_map, unwrap_or}
 use Rattle.std.specs.List.{AllByRecursion}
 use Rattle.console.specs.declared.words.Words.{Words}
@@ -7,6 +7,15 @@ use Rattle.console.specs.declared.words.Words.{Words}
 -- a line without the line feed that ends it, if one does
 abbrev pub without_line_feed : List ℕ → List ℕ
 without_line_feed line = cond (slice_index line (length line - 1) == 10) (take (length line - 1) line) line
+
+-- no byte is a line feed
+abbrev pub IsOneLine : List ℕ → Type 0
+IsOneLine line = All (λ b. b ≢ 10) line
+
+-- the line that was read up to its line feed, or none where nothing was read
+abbrev pub line_in : List ℕ → Option (List ℕ)
+line_in [] = None
+line_in (b ∷ bs) = Some (without_line_feed (b ∷ bs))
 
 -- a line is passed over if it is empty or begins with '#'
 abbrev pub is_passed_over : List ℕ → Bool
@@ -16,11 +25,6 @@ is_passed_over (b ∷ bs) = b == 35
 -- no byte of a word is a space
 abbrev pub Unspaced : List ℕ → Type 0
 Unspaced word = (k : ℕ) → k < length word → slice_index word k ≢ 32
-
--- a list is empty, or a byte and what follows it
-abbrev pub BehindFirst : List ℕ → Option (List ℕ) → Type 0
-BehindFirst bytes None = length bytes ≡ 0
-BehindFirst bytes (Some after) = (b : ℕ) × (bytes ≡ b ∷ after)
 
 -- a line is its first word alone, or that word, a space and the rest
 abbrev pub Split : List ℕ → List ℕ → Option (List ℕ) → Type 0

@@ -9,7 +9,7 @@ mod tally;
 mod text;
 mod words;
 
-pub use hex::{Hex, hex_fill, is_hex};
+pub use hex::{Hex, HexError, hex_fill, is_hex};
 pub use line::read_line;
 pub use number::{signed, unsigned};
 pub use tally::Tally;

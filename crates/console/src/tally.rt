@@ -6,7 +6,7 @@ use std::fmt;
 
 // The lines that were answered, and among them the commands that were refused and the lines that were errors.
 // A count stays at u64::MAX once it is there.
-#[derive(Clone, Copy)]
+#[derive(Clone, Copy, Default)]
 pub struct Tally {
     commands: u64,
     refused: u64,
@@ -17,27 +17,19 @@ impl Tally {
     pub fn new() -> Tally
         ensures { result ≡ record { commands = 0; refused = 0; errors = 0 } }
     {
-        Tally {
-            commands: 0,
-            refused: 0,
-            errors: 0,
-        }
+        Tally::default()
     }
 
     // A command was done.
     pub fn ok(&mut self)
-        ensures commands { self.new.commands ≡ counted self.old.commands }
-        ensures refused { self.new.refused ≡ self.old.refused }
-        ensures errors { self.new.errors ≡ self.old.errors }
+        ensures { self.new ≡ record self.old { commands = counted self.old.commands } }
     {
         self.commands = one_more(self.commands);
     }
 
     // A command was refused.
     pub fn refused(&mut self)
-        ensures commands { self.new.commands ≡ counted self.old.commands }
-        ensures refused { self.new.refused ≡ counted self.old.refused }
-        ensures errors { self.new.errors ≡ self.old.errors }
+        ensures { self.new ≡ record self.old { commands = counted self.old.commands; refused = counted self.old.refused } }
     {
         self.ok();
         self.refused = one_more(self.refused);
@@ -45,9 +37,7 @@ impl Tally {
 
     // A line was an error; it is counted as a command too.
     pub fn error(&mut self)
-        ensures commands { self.new.commands ≡ counted self.old.commands }
-        ensures refused { self.new.refused ≡ self.old.refused }
-        ensures errors { self.new.errors ≡ counted self.old.errors }
+        ensures { self.new ≡ record self.old { commands = counted self.old.commands; errors = counted self.old.errors } }
     {
         self.ok();
         self.errors = one_more(self.errors);
@@ -64,9 +54,11 @@ impl fmt::Display for Tally {
     ghost output = { λ t. Some (summary t.commands t.refused t.errors) };
 
     fn fmt<W: fmt::Write>(&self, f: &mut fmt::Formatter<W>) -> fmt::Result {
-        let commands = self.commands;
-        let refused = self.refused;
-        let errors = self.errors;
+        let Tally {
+            commands,
+            refused,
+            errors,
+        } = self;
         write!(f, "{commands} commands, {refused} refused, {errors} errors")
     }
 }

@@ -2,12 +2,12 @@
 // of two hexadecimal digits. Every other byte stands for itself.
 ghost use Rattle.std.specs.Prelude.{◌≡◌, ◌+◌, ◌<◌, min, length, take, drop, is_some, if◌then◌else◌, None, MatchOption, nat_lt, slice_set};
 ghost use Rattle.std.specs.Option.{option_map};
-ghost use Rattle.console.specs.Text.{any_digit_value, coded_byte, escaped_byte, text_of, Begins, TextsFit};
+ghost use Rattle.console.specs.Text.{any_digit_value, escaped_byte, text_of, Begins, TextsFit};
 
-use crate::hex::digit_value;
+use crate::hex::byte;
 
 // Fills the front of `out` with the bytes that `written` stands for, as many as find a place there, and says how many
-// these are. None where `written` is no TEXT; `out` may then hold any bytes.
+// these are, as `Read::read` does. None where `written` is no TEXT; `out` may then hold any bytes.
 pub fn unescape(written: &[u8], out: &mut [u8]) -> Option<usize>
     ensures count { result ≡ option_map (λ text. min (length text) (length out.old)) (text_of written.now) }
     ensures text { option_map (λ n. take n out.new) result ≡ option_map (take (length out.old)) (text_of written.now) }
@@ -15,11 +15,10 @@ pub fn unescape(written: &[u8], out: &mut [u8]) -> Option<usize>
     ensures law { TextsFit }
 {
     let mut rest = written;
+    // counted by hand, since a text that is longer than `out` is read to its end
     let mut n = 0;
     while !rest.is_empty() {
-        let Some((b, after)) = next_byte(rest) else {
-            return None;
-        };
+        let (b, after) = next_byte(rest)?;
         n = put_byte(out, n, b);
         rest = after;
     }
@@ -30,14 +29,7 @@ pub fn unescape(written: &[u8], out: &mut [u8]) -> Option<usize>
 pub fn is_text(written: &[u8]) -> bool
     ensures { result ≡ is_some (text_of written.now) }
 {
-    let mut rest = written;
-    while !rest.is_empty() {
-        let Some((_, after)) = next_byte(rest) else {
-            return false;
-        };
-        rest = after;
-    }
-    true
+    unescape(written, &mut []).is_some()
 }
 
 // Puts a byte at the place n of `out`, if it has that place, and says which place is next.
@@ -59,7 +51,10 @@ fn next_byte(written: &[u8]) -> Option<(u8, &[u8])>
     ensures { MatchOption result (text_of written.now ≡ None) (λ p. Begins written.now p.0 p.1.now) }
 {
     match written {
-        [b'\\', b'x', high, low, after @ ..] => Some((coded_byte(*high, *low)?, after)),
+        [b'\\', b'x', high, low, after @ ..] => {
+            let b = byte(any_digit_value(*high), any_digit_value(*low))?;
+            Some((b, after))
+        }
         [b'\\', b, after @ ..] => Some((escaped_byte(*b)?, after)),
         [] | [b'\\'] => None,
         [b, after @ ..] => Some((*b, after)),
@@ -77,20 +72,10 @@ fn escaped_byte(b: u8) -> Option<u8>
     }
 }
 
-// The byte that `\x` and two digits stand for.
-fn coded_byte(high: u8, low: u8) -> Option<u8>
-    ensures { result ≡ coded_byte high low }
-{
-    let h = any_digit_value(high)?;
-    let l = any_digit_value(low)?;
-    Some(16 * h + l)
-}
-
+// The value of a digit, also in capitals.
 fn any_digit_value(b: u8) -> Option<u8>
     ensures { result ≡ any_digit_value b }
 {
-    match b {
-        b'A'..=b'F' => Some(b - b'A' + 10),
-        _ => digit_value(b),
-    }
+    let d = char::from(b).to_digit(16)?;
+    u8::try_from(d).ok()
 }

@@ -1,48 +1,14 @@
 // Lines and their words.
-ghost use Rattle.std.specs.Prelude.{◌≡◌, ℕ, ◌<◌, ◌≤◌, [], length, drop, Some, ◌==◌, ◌≢◌, slice_index};
+ghost use Rattle.std.specs.Prelude.{◌≡◌, ◌≢◌, ℕ, ◌+◌, ◌<◌, ◌≤◌, [], length, drop, slice_index, Some, MatchOption, ◌==◌, ⊤};
 ghost use Rattle.std.specs.Option.{option_map, unwrap_or};
-ghost use Rattle.console.specs.Words.{is_passed_over, BehindFirst, Split, Took, first, spaced, text_left, words_left, WordsPartLines};
+ghost use Rattle.std.specs.Iterator.{MakesProgress, YieldsFirstRef, item_count};
+ghost use Rattle.console.specs.Words.{is_passed_over};
 
 // Whether a line says nothing: it is empty, or begins with `#`.
 pub fn passed_over(line: &[u8]) -> bool
     ensures { result ≡ is_passed_over line.now }
 {
-    match line {
-        [] | [b'#', ..] => true,
-        _ => false,
-    }
-}
-
-// The first word of a line, and what follows the space after it, or None where there is no space.
-fn split_word(line: &[u8]) -> (&[u8], Option<&[u8]>)
-    ensures { Split line.now result.0.now (option_map (λ x. x.now) result.1) }
-{
-    let (word, rest) = line.split_at(word_len(line));
-    (word, behind_first(rest))
-}
-
-// What follows the first byte, or None where there is none.
-fn behind_first(bytes: &[u8]) -> Option<&[u8]>
-    ensures { BehindFirst bytes.now (option_map (λ x. x.now) result) }
-{
-    match bytes.split_first() {
-        Some((_, after)) => Some(after),
-        None => None,
-    }
-}
-
-// How many bytes come before the first space, or before the end.
-fn word_len(line: &[u8]) -> usize
-    ensures within { result ≤ length line.now }
-    ensures before { (k : ℕ) → k < result → slice_index line.now k ≢ 32 }
-    ensures found { result < length line.now → slice_index line.now result ≡ 32 }
-{
-    for (i, b) in line.iter().enumerate() {
-        if *b == b' ' {
-            return i;
-        }
-    }
-    line.len()
+    matches!(line, [] | [b'#', ..])
 }
 
 // The words of a line, one by one. `rest` is what is left of the line, or None when the words are used up.
@@ -52,22 +18,12 @@ pub struct Words<'a> {
 }
 
 impl<'a> Words<'a> {
+    ghost use Rattle.console.specs.Words.{spaced, text_left, words_left};
+
     pub fn new(line: &'a [u8]) -> Words<'a>
         ensures { text_left result ≡ Some line.now }
     {
         Words { rest: Some(line) }
-    }
-
-    // The next word, which may be empty, or None when the words are used up.
-    pub fn next(&mut self) -> Option<&'a [u8]>
-        ensures word { option_map (λ x. x.now) result ≡ first (words_left self.old) }
-        ensures after { words_left self.new ≡ drop 1 (words_left self.old) }
-        ensures took { Took (text_left self.old) (option_map (λ x. x.now) result) (text_left self.new) }
-        ensures law { WordsPartLines }
-    {
-        let (word, rest) = take_word(self.rest);
-        self.rest = rest;
-        word
     }
 
     // What is left of the line as a whole, empty where the words are used up.
@@ -75,7 +31,7 @@ impl<'a> Words<'a> {
         ensures text { result.now ≡ unwrap_or (text_left self.now) [] }
         ensures words { result.now ≡ spaced (words_left self.now) }
     {
-        or_empty(self.rest)
+        self.rest.unwrap_or(b"")
     }
 
     // Whether the words are used up.
@@ -86,21 +42,45 @@ impl<'a> Words<'a> {
     }
 }
 
-// The first word of what is left of a line, and what is left then.
-fn take_word(text: Option<&[u8]>) -> (Option<&[u8]>, Option<&[u8]>)
-    ensures { Took (option_map (λ x. x.now) text.entry) (option_map (λ x. x.now) result.0) (option_map (λ x. x.now) result.1) }
-{
-    match text {
-        Some(line) => {
-            let (word, rest) = split_word(line);
-            (Some(word), rest)
-        }
-        None => (None, None),
+impl<'a> Iterator for Words<'a> {
+    ghost use Rattle.console.specs.Words.{Took, first, text_left, words_left, WordsPartLines};
+
+    type Item = &'a [u8];
+
+    ghost next_gives = { YieldsFirstRef words_left };
+
+    ghost remaining = { item_count words_left };
+
+    // The next word, which may be empty, or None when the words are used up.
+    fn next(&mut self) -> Option<&'a [u8]>
+        ensures steps { YieldsFirstRef words_left self.old result self.new }
+        ensures goes { MakesProgress (λ _. ⊤) (item_count words_left) self.old result self.new }
+        ensures word { option_map (λ x. x.now) result ≡ first (words_left self.old) }
+        ensures after { words_left self.new ≡ drop 1 (words_left self.old) }
+        ensures took { Took (text_left self.old) (option_map (λ x. x.now) result) (text_left self.new) }
+        ensures law { WordsPartLines }
+    {
+        let line = self.rest?;
+        let len = word_len(line);
+        self.rest = behind(line, len);
+        Some(&line[..len])
     }
 }
 
-fn or_empty(text: Option<&[u8]>) -> &[u8]
-    ensures { result.now ≡ unwrap_or (option_map (λ x. x.now) text.entry) [] }
+// How many bytes come before the first space, or before the end. A line is cut here and not by a slice's `split`, which would not
+// tell what is left of the line.
+fn word_len(line: &[u8]) -> usize
+    ensures within { result ≤ length line.now }
+    ensures before { (k : ℕ) → k < result → slice_index line.now k ≢ 32 }
+    ensures found { result < length line.now → slice_index line.now result ≡ 32 }
 {
-    text.unwrap_or(b"")
+    line.iter().position(|b| *b == b' ').unwrap_or(line.len())
+}
+
+// What follows the space behind the first `len` bytes, or None where the line ends with them.
+fn behind(line: &[u8], len: usize) -> Option<&[u8]>
+    requires { len ≤ length line.now }
+    ensures { MatchOption result (length line.now ≤ len) (λ rest. (len < length line.now) × (rest.now ≡ drop (len + 1) line.now)) }
+{
+    line.get(len + 1..)
 }

@@ -1,18 +1,17 @@
-ghost use Rattle.std.specs.Prelude.{◌≡◌, Some};
-ghost use Rattle.console.specs.Hex.{bytes_of};
+ghost use Rattle.std.specs.Prelude.{◌≡◌};
 ghost use Rattle.console.specs.Words.{words_of};
-ghost use Rattle.commands.specs.Commands.{command_of, room_asked};
+ghost use Rattle.commands.specs.Commands.{command_of, kind_asked};
 ghost use Rattle.rooms.specs.Meaning.{empty};
-ghost use Rattle.office.specs.Replies.{Does, OpensHex, class_of, tallied};
+ghost use Rattle.office.specs.Replies.{Chooses, Does, Opens, class_of, tallied};
 ghost use Rattle.office.specs.Rooms.{meaning_of};
 
 use crate::reply::Reply;
 use crate::room::OfficeRoom;
 use commands::{Command, RoomChoice, RoomKind, read_command};
 use console::{Tally, hex_fill};
-use rooms::{BadRecord, RoomAnswer};
+use rooms::{BadRecord, RecordRoom, RoomAnswer};
 
-// The room that the office works on, and the count of what it answered. A line takes the desk and gives it back.
+// The room that the office works on, and the count of what it answered.
 #[derive(Drop)]
 pub struct Desk {
     room: OfficeRoom,
@@ -44,67 +43,56 @@ impl Desk {
     }
 
     // Does what one line asks for.
-    pub fn reply(self, line: &[u8]) -> (Desk, Reply)
-        ensures does { Does (command_of (words_of line.now)) self.room result.0.room result.1 }
-        ensures counts { result.0.tally ≡ tallied (class_of result.1) self.tally }
+    pub fn reply(&mut self, line: &[u8]) -> Reply
+        ensures does { Does (command_of (words_of line.now)) self.old.room self.new.room result }
+        ensures counts { self.new.tally ≡ tallied (class_of result) self.old.tally }
     {
-        let Desk { room, tally } = self;
-        let (room, reply) = obey(room, line);
-        let tally = count(tally, reply);
-        (Desk { room, tally }, reply)
+        let reply = obey(&mut self.room, line);
+        count(&mut self.tally, reply);
+        reply
     }
 }
 
-fn count(mut tally: Tally, reply: Reply) -> Tally
-    ensures { result ≡ tallied (class_of reply) tally }
+fn count(tally: &mut Tally, reply: Reply)
+    ensures { tally.new ≡ tallied (class_of reply) tally.old }
 {
     match reply {
-        Reply::Answer(_, RoomAnswer::Refused(_)) | Reply::BadRecord(_) => tally.refused(),
-        Reply::Answer(_, _) | Reply::Opened | Reply::Record(_) => tally.ok(),
-        Reply::NoRecord | Reply::Misread(_) => tally.error(),
+        Reply::Answer(_, RoomAnswer::Change(Err(_))) | Reply::Opened(Err(_)) => tally.refused(),
+        Reply::Record(None) | Reply::Misread(_) => tally.error(),
+        Reply::Answer(_, _) | Reply::Opened(Ok(())) | Reply::Record(Some(_)) => tally.ok(),
     }
-    tally
 }
 
-fn obey(room: OfficeRoom, line: &[u8]) -> (OfficeRoom, Reply)
-    ensures { Does (command_of (words_of line.now)) room result.0 result.1 }
+fn obey(room: &mut OfficeRoom, line: &[u8]) -> Reply
+    ensures { Does (command_of (words_of line.now)) room.old room.new result }
 {
     match read_command(line) {
-        Ok(Command::Room(choice)) => choose(room, choice),
-        Ok(Command::Record) => {
-            let reply = match room.bytes() {
-                Some(bytes) => Reply::Record(bytes),
-                None => Reply::NoRecord,
-            };
-            (room, reply)
-        }
-        Ok(Command::Call(call)) => {
-            let (room, answer) = room.answer(call);
-            (room, Reply::Answer(call, answer))
-        }
-        Err(misread) => (room, Reply::Misread(misread)),
+        Ok(Command::Room(choice)) => Reply::Opened(choose(room, choice)),
+        Ok(Command::Record) => Reply::Record(room.bytes()),
+        Ok(Command::Call(call)) => Reply::Answer(call, room.answer(call)),
+        Err(misread) => Reply::Misread(misread),
     }
 }
 
 // A refused choice leaves the room before it.
-fn choose(room: OfficeRoom, choice: RoomChoice<'_>) -> (OfficeRoom, Reply)
-    ensures { Does (Some (room_asked choice.entry)) room result.0 result.1 }
+fn choose(room: &mut OfficeRoom, choice: RoomChoice<'_>) -> Result<(), BadRecord>
+    ensures { Chooses choice.entry.base (kind_asked choice.entry.kind) room.old room.new (Reply.Opened result) }
 {
-    match choice.kind {
-        RoomKind::Slot => (OfficeRoom::slot(choice.base), Reply::Opened),
-        RoomKind::Record(hex) => open_record(room, choice.base, hex),
-    }
+    *room = open(choice)?;
+    Ok(())
 }
 
-fn open_record(room: OfficeRoom, base: Option<u8>, hex: &[u8]) -> (OfficeRoom, Reply)
-    ensures { OpensHex base (bytes_of hex.now) room result.0 result.1 }
+// The room that is chosen, new.
+fn open(choice: RoomChoice<'_>) -> Result<OfficeRoom, BadRecord>
+    ensures { Opens choice.entry.base (kind_asked choice.entry.kind) result }
 {
-    let mut bytes = [0; 289];
-    if !hex_fill(hex, &mut bytes) {
-        return (room, Reply::BadRecord(BadRecord::Length));
-    }
-    match OfficeRoom::record(base, &bytes) {
-        Ok(opened) => (opened, Reply::Opened),
-        Err(why) => (room, Reply::BadRecord(why)),
+    match choice.kind {
+        RoomKind::Slot => Ok(OfficeRoom::slot(choice.base)),
+        RoomKind::Record(hex) => {
+            let mut bytes = [0; RecordRoom::LENGTH];
+            // what `read_command` takes is HEX, so only its length can be wrong
+            hex_fill(hex, &mut bytes).map_err(|_| BadRecord::Length)?;
+            OfficeRoom::record(choice.base, &bytes)
+        }
     }
 }

@@ -1,113 +1,124 @@
 use crate::reply::Reply;
 use crate::room::OfficeRoom;
-use commands::Misread;
 use console::Hex;
+use refusals::Refused;
 use rooms::{BadRecord, RoomAnswer, RoomCall, RoomRefusal};
-use std::io;
+use std::fmt;
 
-// Prints a reply, and under a refusal or an error what to do.
-pub(crate) fn print_reply(rt: &HostRuntime, room: &OfficeRoom, reply: &Reply) -> io::Result<()> {
-    match reply {
-        Reply::Answer(call, answer) => print_answer(rt, room, call, answer),
-        Reply::Opened => println!(rt; "ok"),
-        Reply::BadRecord(why) => print_bad_record(rt, why),
-        Reply::Record(bytes) => {
-            let hex = Hex(bytes);
-            println!(rt; "{hex}")
-        }
-        Reply::NoRecord => {
-            println!(rt; "error: this room is kept in no record")?;
-            println!(rt; "  open one by: room record HEX")
-        }
-        Reply::Misread(why) => print_misread(rt, why),
-    }
+// A reply as it is printed, and under a refusal or an error what to do. `room` is the one that replied. What a refusal means is put into
+// words here: the crate of the rooms is the terminal's too, and has none.
+#[derive(Clone, Copy)]
+pub struct Shown<'a> {
+    pub room: &'a OfficeRoom,
+    pub reply: &'a Reply,
 }
 
-fn print_answer(
-    rt: &HostRuntime,
-    room: &OfficeRoom,
-    call: &RoomCall,
-    answer: &RoomAnswer,
-) -> io::Result<()> {
-    match answer {
-        RoomAnswer::Count(n) => println!(rt; "{n}"),
-        RoomAnswer::Cell(Some(n)) => println!(rt; "{n}"),
-        RoomAnswer::Cell(None) => println!(rt; "nothing"),
-        RoomAnswer::IsHeld(true) => println!(rt; "held"),
-        RoomAnswer::IsHeld(false) => println!(rt; "free"),
-        RoomAnswer::Accepted => println!(rt; "ok"),
-        RoomAnswer::Refused(why) => print_refusal(rt, room, call, why),
-    }
-}
-
-fn print_refusal(
-    rt: &HostRuntime,
-    room: &OfficeRoom,
-    call: &RoomCall,
-    why: &RoomRefusal,
-) -> io::Result<()> {
-    let number = why.number();
-    let place = why.place();
-    print!(rt; "refused {number} at {place}: ")?;
-    match (why, call) {
-        (RoomRefusal::NoSuchCell, _) => {
-            println!(rt; "there is no such cell")?;
-            explain_cells(rt, room.size())
-        }
-        (RoomRefusal::LatchRefused, RoomCall::Take(k)) => {
-            println!(rt; "latch {k} cannot be taken")?;
-            explain_latch(rt, room, *k, "is held; it has to be given back first")
-        }
-        (RoomRefusal::LatchRefused, RoomCall::Give(k)) => {
-            println!(rt; "latch {k} cannot be given back")?;
-            explain_latch(rt, room, *k, "is free already")
-        }
-        (RoomRefusal::LatchRefused, _) => println!(rt; "the latch refuses"),
-    }
-}
-
-fn explain_latch(rt: &HostRuntime, room: &OfficeRoom, k: usize, state: &str) -> io::Result<()> {
-    let latches = room.latch_count();
-    if k < latches {
-        println!(rt; "  latch {k} {state}")
-    } else {
-        println!(rt; "  this room has {latches} latches, numbered from 0")
-    }
-}
-
-fn explain_cells(rt: &HostRuntime, size: usize) -> io::Result<()> {
-    match size {
-        0 => println!(rt; "  this room has no cells"),
-        1 => println!(rt; "  this room has cell 0 alone"),
-        _ => {
-            let last = size - 1;
-            println!(rt; "  this room has the cells 0 to {last}")
+impl fmt::Display for Shown<'_> {
+    fn fmt<W: fmt::Write>(&self, f: &mut fmt::Formatter<W>) -> fmt::Result {
+        match self.reply {
+            Reply::Answer(call, RoomAnswer::Change(Err(why))) => {
+                let refused = Refused(why);
+                let cause = Cause {
+                    room: self.room,
+                    call,
+                    why,
+                };
+                write!(f, "{refused}: {cause}")
+            }
+            Reply::Answer(_, RoomAnswer::Count(n)) => write!(f, "{n}"),
+            Reply::Answer(_, RoomAnswer::Cell(Some(n))) => write!(f, "{n}"),
+            Reply::Answer(_, RoomAnswer::Cell(None)) => f.write_str("nothing"),
+            Reply::Answer(_, RoomAnswer::IsHeld(true)) => f.write_str("held"),
+            Reply::Answer(_, RoomAnswer::IsHeld(false)) => f.write_str("free"),
+            Reply::Answer(_, RoomAnswer::Change(Ok(()))) | Reply::Opened(Ok(())) => {
+                f.write_str("ok")
+            }
+            Reply::Opened(Err(why)) => {
+                let refused = Refused(why);
+                let flaw = Flaw(why);
+                write!(f, "{refused}: these bytes are no record\n  {flaw}")
+            }
+            Reply::Record(Some(bytes)) => write!(f, "{}", Hex(bytes)),
+            Reply::Record(None) => f.write_str(
+                "error: this room is kept in no record\n  open one by: room record HEX",
+            ),
+            Reply::Misread(why) => write!(f, "error: {why}"),
         }
     }
 }
 
-fn print_bad_record(rt: &HostRuntime, why: &BadRecord) -> io::Result<()> {
-    let number = why.number();
-    let place = why.place();
-    println!(rt; "refused {number} at {place}: these bytes are no record")?;
-    match why {
-        BadRecord::Length => println!(rt; "  a record has 289 bytes, 578 digits"),
-        BadRecord::Mark(c) => println!(rt;
-            "  the mark of cell {c}, the ninth of its bytes, is neither 00 nor 01"
-        ),
-        BadRecord::Latches => println!(rt; "  the last byte, of the latches, is above 0f"),
+// Why a room refused a call, and what there is in it.
+#[derive(Clone, Copy)]
+struct Cause<'a> {
+    room: &'a OfficeRoom,
+    call: &'a RoomCall,
+    why: &'a RoomRefusal,
+}
+
+impl fmt::Display for Cause<'_> {
+    fn fmt<W: fmt::Write>(&self, f: &mut fmt::Formatter<W>) -> fmt::Result {
+        let room = self.room;
+        match (self.why, self.call) {
+            (RoomRefusal::NoSuchCell, _) => {
+                let cells = CellsOf(room);
+                write!(f, "there is no such cell\n  this room has {cells}")
+            }
+            (RoomRefusal::LatchRefused, RoomCall::Take(k)) => {
+                let latch = Latch(room, *k, "is held; it has to be given back first");
+                write!(f, "latch {k} cannot be taken\n  {latch}")
+            }
+            (RoomRefusal::LatchRefused, RoomCall::Give(k)) => {
+                let latch = Latch(room, *k, "is free already");
+                write!(f, "latch {k} cannot be given back\n  {latch}")
+            }
+            (RoomRefusal::LatchRefused, _) => f.write_str("the latch refuses"),
+        }
     }
 }
 
-fn print_misread(rt: &HostRuntime, why: &Misread) -> io::Result<()> {
-    match why {
-        Misread::NoSuchCommand => {
-            println!(rt; "error: there is no such command")?;
-            println!(rt; "  commands are room, record, size, held, look, put, clear, take and give")
+// A latch of a room with its state, or how many latches there are where it is none of them.
+#[derive(Clone, Copy)]
+struct Latch<'a>(&'a OfficeRoom, usize, &'static str);
+
+impl fmt::Display for Latch<'_> {
+    fn fmt<W: fmt::Write>(&self, f: &mut fmt::Formatter<W>) -> fmt::Result {
+        let Latch(room, k, state) = self;
+        let latches = room.latch_count();
+        if *k < latches {
+            write!(f, "latch {k} {state}")
+        } else {
+            write!(f, "this room has {latches} latches, numbered from 0")
         }
-        Misread::Form(keyword, fault) => {
-            println!(rt; "error: {fault}")?;
-            println!(rt; "  write: {keyword}")
+    }
+}
+
+// The cells of a room.
+#[derive(Clone, Copy)]
+struct CellsOf<'a>(&'a OfficeRoom);
+
+impl fmt::Display for CellsOf<'_> {
+    fn fmt<W: fmt::Write>(&self, f: &mut fmt::Formatter<W>) -> fmt::Result {
+        match self.0.size() {
+            0 => f.write_str("no cells"),
+            1 => f.write_str("cell 0 alone"),
+            size => write!(f, "the cells 0 to {}", size - 1),
+        }
+    }
+}
+
+// What is wrong with bytes that are no record.
+#[derive(Clone, Copy)]
+struct Flaw<'a>(&'a BadRecord);
+
+impl fmt::Display for Flaw<'_> {
+    fn fmt<W: fmt::Write>(&self, f: &mut fmt::Formatter<W>) -> fmt::Result {
+        match self.0 {
+            BadRecord::Length => f.write_str("a record has 289 bytes, 578 digits"),
+            BadRecord::Mark(c) => write!(
+                f,
+                "the mark of cell {c}, the ninth of its bytes, is neither 00 nor 01"
+            ),
+            BadRecord::Latches => f.write_str("the last byte, of the latches, is above 0f"),
         }
     }
 }

@@ -1,14 +1,14 @@
 use commands::Misread;
-use rooms::{BadRecord, RoomAnswer, RoomCall};
+use rooms::{BadRecord, RecordRoom, RoomAnswer, RoomCall};
 
 // What the office answers to a line.
-#[derive(Clone, Copy)]
+#[derive(Clone, Copy, Debug, PartialEq, Eq)]
 pub enum Reply {
-    // the answer to a room call
+    // what the room answers to a call
     Answer(RoomCall, RoomAnswer),
-    Opened,
-    BadRecord(BadRecord),
-    Record([u8; 289]),
-    NoRecord,
+    // a room was opened, unless the bytes are no record
+    Opened(Result<(), BadRecord>),
+    // the bytes of the room's record, if it is kept in one
+    Record(Option<[u8; RecordRoom::LENGTH]>),
     Misread(Misread),
 }

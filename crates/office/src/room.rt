@@ -6,7 +6,7 @@ ghost use Rattle.office.specs.Rooms.{meaning_of, record_of, part};
 
 use rooms::{BadRecord, Cells, RecordRoom, Room, RoomAnswer, RoomCall, SlotRoom, Window, answer};
 
-// The room that the office works on, of any kind.
+// The room that the office works on, of any kind. `Room` has a constant, so no `dyn Room` could stand for the four.
 #[derive(Drop)]
 pub enum OfficeRoom {
     Slot(SlotRoom),
@@ -37,28 +37,16 @@ impl OfficeRoom {
         }
     }
 
-    // Does one call, and gives the room back with its answer.
-    pub fn answer(self, call: RoomCall) -> (OfficeRoom, RoomAnswer)
-        ensures answer { result.1 ≡ answer_to (meaning_of self) call }
-        ensures after { meaning_of result.0 ≡ after_call (meaning_of self) call }
+    // Does one call.
+    pub fn answer(&mut self, call: RoomCall) -> RoomAnswer
+        ensures answer { result ≡ answer_to (meaning_of self.old) call }
+        ensures after { meaning_of self.new ≡ after_call (meaning_of self.old) call }
     {
         match self {
-            OfficeRoom::Slot(mut room) => {
-                let said = answer(&mut room, call);
-                (OfficeRoom::Slot(room), said)
-            }
-            OfficeRoom::Record(mut room) => {
-                let said = answer(&mut room, call);
-                (OfficeRoom::Record(room), said)
-            }
-            OfficeRoom::SlotWindow(mut room) => {
-                let said = answer(&mut room, call);
-                (OfficeRoom::SlotWindow(room), said)
-            }
-            OfficeRoom::RecordWindow(mut room) => {
-                let said = answer(&mut room, call);
-                (OfficeRoom::RecordWindow(room), said)
-            }
+            OfficeRoom::Slot(room) => answer(room, call),
+            OfficeRoom::Record(room) => answer(room, call),
+            OfficeRoom::SlotWindow(room) => answer(room, call),
+            OfficeRoom::RecordWindow(room) => answer(room, call),
         }
     }
 
@@ -85,7 +73,7 @@ impl OfficeRoom {
     }
 
     // The bytes of the record, where the room is one or a window over one.
-    pub fn bytes(&self) -> Option<[u8; 289]>
+    pub fn bytes(&self) -> Option<[u8; RecordRoom::LENGTH]>
         ensures { result ≡ record_of self.now }
     {
         match self {

@@ -1,6 +1,6 @@
 use rooms::{RecordRoom, Room, SlotRoom, Window};
 
-// No contract says what the constant of a window is, so a run does.
+// The constants as Rust sees them, and the count of a window over a window.
 #[test]
 fn latches_of_each_kind(rt: HostRuntime) {
     assert_eq!(rt; SlotRoom::LATCHES, 8);

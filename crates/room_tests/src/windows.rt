@@ -15,10 +15,10 @@ fn writes_at_its_base<R: Room + Drop>(rt: &impl Abort, below: R, base: u8) {
 fn windows_reach_from_their_base(rt: HostRuntime) -> Result<(), Fail> {
     for base in [0, 31, 32, 63, 64, 255] {
         writes_at_its_base(&rt, SlotRoom::new(), base);
-        match RecordRoom::open(&[0; 289]) {
-            Ok(record) => writes_at_its_base(&rt, record, base),
-            Err(_) => return Err(Fail::new("289 zero bytes are a record")),
-        }
+        let Ok(record) = RecordRoom::open(&[0; 289]) else {
+            return Err(Fail::new("289 zero bytes are a record"));
+        };
+        writes_at_its_base(&rt, record, base);
     }
     Ok(())
 }

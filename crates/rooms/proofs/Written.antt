@@ -1,8 +1,7 @@
 -- What nine new bytes leave of a record: its length, every other cell's nine and its last byte.
-use Rattle.std.proofs.Common.{◌≡◌, ℕ, ◌+◌, ◌-◌, ◌*◌, ◌<◌, ◌≤◌, ◌≢◌, List, ◌++◌, length, get_or, take, drop, ℤ, Some, None, Option, sym, refl, ap, ◌∙◌, arith, rules}
-use borrow.Rule.Slice.PartMut.{put_mid, Post-is}
+use Rattle.std.proofs.Common.{◌≡◌, ℕ, ◌+◌, ◌*◌, ◌<◌, ◌≤◌, ◌≢◌, List, ◌++◌, length, get_or, take, drop, ℤ, Some, None, Option, sym, refl, ap, ◌∙◌, arith, rules}
 use Rattle.std.proofs.lemmas.List.{places, same_lists, take_at, drop_at}
-use Rattle.rooms.specs.Record.{nine_for, with_nine, nine_at, latch_byte, MarksOk}
+use Rattle.rooms.specs.Record.{nine_for, with_nine, nine_at, latch_byte, MarksOk, IsRecord}
 
 -- a part of a list, in the middle and apart from a change
 part_here : {X : Type 0} (xs ys zs : List X) (i n : ℕ) → length xs ≡ i → length ys ≡ n → take n (drop i (xs ++ (ys ++ zs))) ≡ ys
@@ -18,10 +17,6 @@ nine_long None = refl
 pub nine_mark : (v : Option ℤ) → get_or (nine_for v) 8 0 ≤ 1
 nine_mark (Some n) = omega arith
 nine_mark None = omega arith
-
--- a copy into the nine places of a cell
-pub copied : (bytes : List ℕ) (c : ℕ) (nine : List ℕ) → put_mid (9 * c) (9 * c + 9 - 9 * c) bytes nine ≡ with_nine bytes c nine
-copied bytes c nine = ap (λ z. take (9 * c) bytes ++ (nine ++ z)) (Post-is (9 * c) (9 * c + 9) bytes (omega arith))
 
 module _ (bytes : List ℕ) (c : ℕ) (nine : List ℕ) (long : length bytes ≡ 289) (there : c < 32) (few : length nine ≡ 9) where
   pub with_nine_long : length (with_nine bytes c nine) ≡ 289
@@ -40,3 +35,12 @@ module _ (bytes : List ℕ) (c : ℕ) (nine : List ℕ) (long : length bytes ≡
 
   pub with_nine_marks : get_or nine 8 0 ≤ 1 → MarksOk bytes → MarksOk (with_nine bytes c nine)
   with_nine_marks ok all k h = grind (arith, places, all k h)
+
+pub record_after : (bytes : List ℕ) (c : ℕ) (v : Option ℤ) (new : List ℕ) → IsRecord bytes → c < 32 → new ≡ with_nine bytes c (nine_for v) → IsRecord new
+record_after bytes c v new ok there e =
+    let few = nine_long v in
+    rw e (record {
+      long = with_nine_long bytes c (nine_for v) ok.long there few;
+      marks = with_nine_marks bytes c (nine_for v) ok.long there few (nine_mark v) ok.marks;
+      latches = rw (with_nine_last bytes c (nine_for v) ok.long there few) ok.latches;
+    })

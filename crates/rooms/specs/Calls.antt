@@ -1,16 +1,10 @@
 -- Room calls as values: what a room answers to one call or to a list of them, by its meaning alone.
-use Rattle.std.specs.Prelude.{◌≡◌, List, [], ◌∷◌, Some, None, Ok, Err, Result}
+use Rattle.std.specs.Prelude.{◌≡◌, List, [], ◌∷◌, Some, None}
 use Rattle.rooms.specs.Meaning.{Meaning, size_of, latch_count, cell, is_held, cell_answer, cell_after, take_answer, take_after, give_answer, give_after}
-use Rattle.rooms.specs.declared.refusal.RoomRefusal.{RoomRefusal}
 use Rattle.rooms.specs.declared.calls.RoomCall.{RoomCall}
 use Rattle.rooms.specs.declared.calls.RoomCall.TheVariants.{Size, LatchCount, Get, Held, Put, Clear, Take, Give}
 use Rattle.rooms.specs.declared.calls.RoomAnswer.{RoomAnswer}
-use Rattle.rooms.specs.declared.calls.RoomAnswer.TheVariants.{Count, Cell, IsHeld, Accepted, Refused}
-
--- the answer of a call that may be refused
-abbrev pub answered : Result (Unit {0}) RoomRefusal → RoomAnswer
-answered (Ok x) = Accepted
-answered (Err why) = Refused why
+use Rattle.rooms.specs.declared.calls.RoomAnswer.TheVariants.{Count, Cell, IsHeld, Change}
 
 -- the answer to one call
 abbrev pub answer_to : Meaning → RoomCall → RoomAnswer
@@ -18,10 +12,10 @@ answer_to m Size = Count (size_of m)
 answer_to m LatchCount = Count (latch_count m)
 answer_to m (Get c) = Cell (cell m c)
 answer_to m (Held k) = IsHeld (is_held m.latches k)
-answer_to m (Put c n) = answered (cell_answer m c)
-answer_to m (Clear c) = answered (cell_answer m c)
-answer_to m (Take k) = answered (take_answer m k)
-answer_to m (Give k) = answered (give_answer m k)
+answer_to m (Put c n) = Change (cell_answer m c)
+answer_to m (Clear c) = Change (cell_answer m c)
+answer_to m (Take k) = Change (take_answer m k)
+answer_to m (Give k) = Change (give_answer m k)
 
 -- the room after one call; a question changes nothing
 abbrev pub after_call : Meaning → RoomCall → Meaning

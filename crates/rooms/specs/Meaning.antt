@@ -36,6 +36,10 @@ is_held latches k = slice_index_or latches k false
 unfoldable pub is_free : List Bool → ℕ → Bool
 is_free latches k = cond (nat_lt k (length latches)) (not (slice_index_or latches k false)) false
 
+-- latch k can be turned: held (true) where it is there and free, free (false) where it is there and held
+abbrev pub can_turn : List Bool → ℕ → Bool → Bool
+can_turn latches k on = cond on (is_free latches k) (is_held latches k)
+
 -- the room with one cell changed
 abbrev pub with_cell : Meaning → ℕ → Option ℤ → Meaning
 with_cell m c v = record { cells = slice_set m.cells c v; latches = m.latches }
@@ -56,18 +60,26 @@ cell_answer m c = accepted_if (nat_lt c (size_of m)) NoSuchCell
 abbrev pub cell_after : Meaning → ℕ → Option ℤ → Meaning
 cell_after m c v = cond (nat_lt c (size_of m)) (with_cell m c v) m
 
+-- take (true) or give (false): the latch has to be there and the other way
+abbrev pub turn_answer : Meaning → ℕ → Bool → Result (Unit {0}) RoomRefusal
+turn_answer m k on = accepted_if (can_turn m.latches k on) LatchRefused
+
+-- after take (true) or give (false)
+abbrev pub turn_after : Meaning → ℕ → Bool → Meaning
+turn_after m k on = cond (can_turn m.latches k on) (with_latch m k on) m
+
 -- take: the latch has to be there and free
 abbrev pub take_answer : Meaning → ℕ → Result (Unit {0}) RoomRefusal
-take_answer m k = accepted_if (is_free m.latches k) LatchRefused
+take_answer m k = turn_answer m k true
 
 -- after take
 abbrev pub take_after : Meaning → ℕ → Meaning
-take_after m k = cond (is_free m.latches k) (with_latch m k true) m
+take_after m k = turn_after m k true
 
 -- give: the latch has to be there and held
 abbrev pub give_answer : Meaning → ℕ → Result (Unit {0}) RoomRefusal
-give_answer m k = accepted_if (is_held m.latches k) LatchRefused
+give_answer m k = turn_answer m k false
 
 -- after give
 abbrev pub give_after : Meaning → ℕ → Meaning
-give_after m k = cond (is_held m.latches k) (with_latch m k false) m
+give_after m k = turn_after m k false

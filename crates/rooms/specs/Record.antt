@@ -1,23 +1,22 @@
 -- The record format, 289 bytes: nine for each of 32 cells, its number's eight and a mark, and a last one for four latches.
-use Rattle.std.specs.Prelude.{◌≡◌, ℕ, ◌+◌, ◌*◌, ◌/◌, ◌%◌, ◌^◌, ◌<◌, ◌≤◌, Bool, false, cond, List, [], ◌∷◌, ◌++◌, map, length, take, drop, replicate, ℤ, Some, None, Option, ◌==◌, nat_lt, slice_index, slice_index_or, slice_set}
-use Rattle.std.specs.Int.{w64}
-use Rattle.std.proofs.Common.{to_z, of_z}
+use Rattle.std.specs.Prelude.{◌≡◌, ℕ, ◌+◌, ◌*◌, ◌/◌, ◌%◌, ◌<◌, ◌≤◌, Bool, false, cond, List, [], ◌∷◌, ◌++◌, map, length, take, drop, replicate, ℤ, Some, None, Option, ◌==◌, nat_lt, slice_index, slice_index_or, slice_set}
+use Rattle.std.specs.Int.{w64, cast_signed, cast_unsigned, to_be_bytes, from_be_bytes}
 use Rattle.std.specs.List.{range_with_len}
-use Rattle.rooms.specs.Meaning.{Meaning}
+use Rattle.rooms.specs.Meaning.{Meaning, can_turn}
 use Rattle.rooms.specs.declared.refusal.BadRecord.{BadRecord}
 use Rattle.rooms.specs.declared.refusal.BadRecord.TheVariants.{Length, Mark, Latches}
 
--- the number that eight bytes stand for: two's complement (to_z), the most significant byte first
+-- the number that eight bytes stand for: two's complement, the most significant byte first
 abbrev pub number_in : List ℕ → ℤ
-number_in b = to_z w64 (slice_index b 0 * 2 ^ 56 + slice_index b 1 * 2 ^ 48 + slice_index b 2 * 2 ^ 40 + slice_index b 3 * 2 ^ 32 + slice_index b 4 * 2 ^ 24 + slice_index b 5 * 2 ^ 16 + slice_index b 6 * 2 ^ 8 + slice_index b 7)
+number_in b = cast_signed w64 (from_be_bytes w64 b)
 
 -- what nine bytes say of a cell: its number under mark 1, and else nothing
 abbrev pub cell_in : List ℕ → Option ℤ
 cell_in nine = cond (slice_index nine 8 == 1) (Some (number_in nine)) None
 
--- the eight bytes of a number, of which of_z gives the two's complement
+-- the eight bytes of a number
 abbrev pub bytes_of : ℤ → List ℕ
-bytes_of n = of_z w64 n / 2 ^ 56 % 256 ∷ of_z w64 n / 2 ^ 48 % 256 ∷ of_z w64 n / 2 ^ 40 % 256 ∷ of_z w64 n / 2 ^ 32 % 256 ∷ of_z w64 n / 2 ^ 24 % 256 ∷ of_z w64 n / 2 ^ 16 % 256 ∷ of_z w64 n / 2 ^ 8 % 256 ∷ of_z w64 n % 256 ∷ []
+bytes_of n = to_be_bytes w64 (cast_unsigned w64 n)
 
 -- the nine bytes that put (Some n) and clear (None) write
 abbrev pub nine_for : Option ℤ → List ℕ
@@ -63,6 +62,10 @@ byte_of ls = bit (slice_index_or ls 0 false) + 2 * bit (slice_index_or ls 1 fals
 -- the bytes with latch k held or free
 abbrev pub with_latch_bit : List ℕ → ℕ → Bool → List ℕ
 with_latch_bit bytes k on = slice_set bytes 288 (byte_of (slice_set (latches_in (latch_byte bytes)) k on))
+
+-- the bytes after take (true) or give (false)
+abbrev pub bytes_turned : List ℕ → ℕ → Bool → List ℕ
+bytes_turned bytes k on = cond (can_turn (latches_in (latch_byte bytes)) k on) (with_latch_bit bytes k on) bytes
 
 -- the 32 cells
 unfoldable pub cells_in : List ℕ → List (Option ℤ)

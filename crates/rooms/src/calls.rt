@@ -1,11 +1,11 @@
 ghost use Rattle.std.specs.Prelude.{◌≡◌, true, Decides};
-ghost use Rattle.rooms.specs.Calls.{answer_to, after_call, answers_to, answered, LeftBy};
+ghost use Rattle.rooms.specs.Calls.{answer_to, after_call, answers_to, LeftBy};
 
 use crate::refusal::RoomRefusal;
 use crate::room::Room;
 
 // A call of a room, as a value.
-#[derive(Clone, Copy)]
+#[derive(Clone, Copy, PartialEq, Eq, Debug)]
 pub enum RoomCall {
     Size,
     LatchCount,
@@ -18,22 +18,13 @@ pub enum RoomCall {
 }
 
 // What a room answers.
-#[derive(Clone, Copy, PartialEq, Eq)]
+#[derive(Clone, Copy, PartialEq, Eq, Debug)]
 pub enum RoomAnswer {
     Count(usize),
     Cell(Option<i64>),
     IsHeld(bool),
-    Accepted,
-    Refused(RoomRefusal),
-}
-
-fn answered(res: Result<(), RoomRefusal>) -> RoomAnswer
-    ensures { result ≡ answered res }
-{
-    match res {
-        Ok(()) => RoomAnswer::Accepted,
-        Err(why) => RoomAnswer::Refused(why),
-    }
+    // to put, clear, take and give
+    Change(Result<(), RoomRefusal>),
 }
 
 // Does one call on any room.
@@ -46,17 +37,20 @@ pub fn answer<R: Room>(room: &mut R, call: RoomCall) -> RoomAnswer
         RoomCall::LatchCount => RoomAnswer::Count(room.latch_count()),
         RoomCall::Get(c) => RoomAnswer::Cell(room.get(c)),
         RoomCall::Held(k) => RoomAnswer::IsHeld(room.held(k)),
-        RoomCall::Put(c, n) => answered(room.put(c, n)),
-        RoomCall::Clear(c) => answered(room.clear(c)),
-        RoomCall::Take(k) => answered(room.take(k)),
-        RoomCall::Give(k) => answered(room.give(k)),
+        RoomCall::Put(c, n) => RoomAnswer::Change(room.put(c, n)),
+        RoomCall::Clear(c) => RoomAnswer::Change(room.clear(c)),
+        RoomCall::Take(k) => RoomAnswer::Change(room.take(k)),
+        RoomCall::Give(k) => RoomAnswer::Change(room.give(k)),
     }
 }
 
-fn same(a: RoomAnswer, b: RoomAnswer) -> bool
-    ensures { Decides result (a ≡ b) }
+// Does the same call on two rooms, and says whether they answered alike.
+fn both_alike<A: Room, B: Room>(a: &mut A, b: &mut B, call: RoomCall) -> bool
+    ensures answers { Decides result (answer_to (A.Cells.meaning a.old) call ≡ answer_to (B.Cells.meaning b.old) call) }
+    ensures a_after { A.Cells.meaning a.new ≡ after_call (A.Cells.meaning a.old) call }
+    ensures b_after { B.Cells.meaning b.new ≡ after_call (B.Cells.meaning b.old) call }
 {
-    a == b
+    answer(a, call) == answer(b, call)
 }
 
 // Does the same calls on two rooms, and says whether they answered alike throughout.
@@ -68,9 +62,7 @@ pub fn answer_alike<A: Room, B: Room>(a: &mut A, b: &mut B, calls: &[RoomCall]) 
 {
     let mut alike = true;
     for call in calls {
-        let first = answer(a, *call);
-        let second = answer(b, *call);
-        alike &= same(first, second);
+        alike &= both_alike(a, b, *call);
     }
     alike
 }

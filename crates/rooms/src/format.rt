@@ -1,6 +1,6 @@
 // The bytes of a record, piece by piece.
-ghost use Rattle.std.specs.Prelude.{◌≡◌, ◌<◌, length, Some, None, MatchOption};
-ghost use Rattle.rooms.specs.Record.{MarksOk, LowestWrongMark, number_in, bytes_of, cell_in, nine_for, latches_in, byte_of};
+ghost use Rattle.std.specs.Prelude.{◌≡◌, ◌<◌, Some, None, MatchOption, nat_lt};
+ghost use Rattle.rooms.specs.Record.{mark_at, MarksOk, LowestWrongMark, cell_in, nine_for, latches_in, byte_of};
 
 pub(crate) const CELLS: usize = 32;
 
@@ -16,51 +16,27 @@ pub(crate) const LATCH_BYTE: usize = CELLS * CELL_BYTES;
 pub(crate) const LENGTH: usize = LATCH_BYTE + 1;
 
 // The lowest cell whose mark is above 1.
-pub(crate) fn wrong_mark(bytes: &[u8]) -> Option<usize>
-    requires { length bytes.now ≡ 289 }
+pub(crate) fn wrong_mark(bytes: &[u8; LENGTH]) -> Option<usize>
     ensures { MatchOption result (MarksOk bytes.now) (λ c. LowestWrongMark bytes.now c) }
 {
-    for c in 0..CELLS {
-        if bytes[CELL_BYTES * c + MARK] > 1 {
-            return Some(c);
-        }
-    }
-    None
+    (0..CELLS).find(|c| has_wrong_mark(bytes, *c))
 }
 
-// The number in the first eight bytes.
-fn number_in(b: &[u8]) -> i64
-    requires { length b.now ≡ 9 }
-    ensures { result ≡ number_in b.now }
+fn has_wrong_mark(bytes: &[u8; LENGTH], c: usize) -> bool
+    requires { c < 32 }
+    ensures { result ≡ nat_lt 1 (mark_at bytes.now c) }
 {
-    i64::from_be_bytes([b[0], b[1], b[2], b[3], b[4], b[5], b[6], b[7]])
+    bytes[CELL_BYTES * c + MARK] > 1
 }
 
 // What nine bytes say of a cell.
-pub(crate) fn cell_in(nine: &[u8]) -> Option<i64>
-    requires { length nine.now ≡ 9 }
+pub(crate) fn cell_in(nine: &[u8; CELL_BYTES]) -> Option<i64>
     ensures { result ≡ cell_in nine.now }
 {
-    if nine[MARK] == 1 {
-        Some(number_in(nine))
-    } else {
-        None
+    match *nine {
+        [a, b, c, d, e, f, g, h, 1] => Some(i64::from_be_bytes([a, b, c, d, e, f, g, h])),
+        _ => None,
     }
-}
-
-fn number_bytes(n: i64) -> [u8; 8]
-    ensures { result ≡ bytes_of n }
-{
-    n.to_be_bytes()
-}
-
-// The nine bytes of a cell that holds a number.
-fn filled_nine(n: i64) -> [u8; CELL_BYTES]
-    ensures value { result ≡ nine_for (Some n) }
-    ensures says { cell_in result ≡ Some n }
-{
-    let [a, b, c, d, e, f, g, h] = number_bytes(n);
-    [a, b, c, d, e, f, g, h, 1]
 }
 
 // The nine bytes of a cell, which say what it holds.
@@ -69,12 +45,15 @@ pub(crate) fn nine_for(v: Option<i64>) -> [u8; CELL_BYTES]
     ensures says { cell_in result ≡ v }
 {
     match v {
-        Some(n) => filled_nine(n),
+        Some(n) => {
+            let [a, b, c, d, e, f, g, h] = n.to_be_bytes();
+            [a, b, c, d, e, f, g, h, 1]
+        }
         None => [0; CELL_BYTES],
     }
 }
 
-// Latch k is bit k.
+// Latch k is bit k. Here and in `byte_of` each bit is written out, as in the table of the format.
 pub(crate) fn latches_in(byte: u8) -> [bool; LATCHES]
     ensures { result ≡ latches_in byte }
 {
@@ -87,8 +66,7 @@ pub(crate) fn latches_in(byte: u8) -> [bool; LATCHES]
 }
 
 pub(crate) fn byte_of(latches: [bool; LATCHES]) -> u8
-    requires { length latches ≡ 4 }
-    ensures value { result ≡ byte_of latches }
+    ensures { result ≡ byte_of latches }
 {
     let [a, b, c, d] = latches;
     u8::from(a) + 2 * u8::from(b) + 4 * u8::from(c) + 8 * u8::from(d)

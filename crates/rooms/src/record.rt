@@ -1,12 +1,14 @@
-ghost use Rattle.std.specs.Prelude.{◌≡◌, ◌<◌, ◌≤◌, true, false, length, if◌then◌else◌, Some, None, Ok, Err};
-ghost use Rattle.rooms.specs.Meaning.{is_held, is_free, with_latch, cell_answer, cell_after, take_answer, take_after, give_answer, give_after};
-ghost use Rattle.rooms.specs.Record.{IsRecord, MarksOk, Spoils, bytes_after, latch_byte, latches_in, with_latch_bit, decoded};
+#![tactic(auto, using(crate::proofs::Decoded::recorded))]
+
+ghost use Rattle.std.specs.Prelude.{◌≡◌, true, false, Some, None, Ok, Err};
+ghost use Rattle.rooms.specs.Meaning.{cell_answer, cell_after, turn_answer, turn_after, take_answer, take_after, give_answer, give_after};
+ghost use Rattle.rooms.specs.Record.{IsRecord, Spoils, bytes_after, bytes_turned, latch_byte, latches_in, decoded};
 
 use crate::format::{
     CELL_BYTES, CELLS, LATCH_BYTE, LATCHES, LENGTH, byte_of, cell_in, latches_in, nine_for,
     wrong_mark,
 };
-use crate::latch::{is_free, is_held};
+use crate::latch::{is_held, turn};
 use crate::refusal::{BadRecord, RoomRefusal};
 use crate::room::{Cells, Room};
 
@@ -14,28 +16,25 @@ use crate::room::{Cells, Room};
 #[derive(Drop)]
 pub struct RecordRoom {
     bytes: [u8; LENGTH],
-    ghost long: { length bytes ≡ 289 },
-    ghost marks: { MarksOk bytes },
-    ghost latches: { latch_byte bytes ≤ 15 },
+    ghost is_record: { IsRecord bytes },
 }
 
 impl RecordRoom {
+    // How many bytes a record has.
+    pub const LENGTH: usize = LENGTH;
+
     // A room over a copy of the bytes, which stay as they are until a call names their cell.
     pub fn open(bytes: &[u8]) -> Result<RecordRoom, BadRecord>
         ensures { elim result [ Ok room ↦ room.bytes ≡ bytes.now | Err why ↦ Spoils why bytes.now ] }
     {
-        if bytes.len() != LENGTH {
-            return Err(BadRecord::Length);
-        }
-        if let Some(c) = wrong_mark(bytes) {
+        let bytes: [u8; LENGTH] = bytes.try_into().map_err(|_| BadRecord::Length)?;
+        if let Some(c) = wrong_mark(&bytes) {
             return Err(BadRecord::Mark(c));
         }
         if bytes[LATCH_BYTE] > 15 {
             return Err(BadRecord::Latches);
         }
-        let mut copy = [0; LENGTH];
-        copy.copy_from_slice(bytes);
-        Ok(RecordRoom { bytes: copy })
+        Ok(RecordRoom { bytes })
     }
 
     // The record as it is now: bytes that open again as a room of the same meaning.
@@ -55,8 +54,9 @@ impl RecordRoom {
         if c >= CELLS {
             return Err(RoomRefusal::NoSuchCell);
         }
-        let nine = nine_for(v);
-        self.bytes[CELL_BYTES * c..CELL_BYTES * c + CELL_BYTES].copy_from_slice(&nine);
+        // By index: what `as_chunks_mut` promises does not say what the bytes are after the write.
+        let at = CELL_BYTES * c;
+        self.bytes[at..at + CELL_BYTES].copy_from_slice(&nine_for(v));
         Ok(())
     }
 
@@ -66,18 +66,21 @@ impl RecordRoom {
         latches_in(self.bytes[LATCH_BYTE])
     }
 
-    // Writes the byte of the latches, with one of them changed.
-    fn set_latch(&mut self, k: usize, on: bool)
-        requires { k < 4 }
-        ensures after { decoded self.new.bytes ≡ with_latch (decoded self.old.bytes) k on }
-        ensures bytes { self.new.bytes ≡ with_latch_bit self.old.bytes k on }
+    // Turns latch `k` held or free, which has to be there and the other way before.
+    #[tactic(auto, using(crate::proofs::Decoded::decoded_turned))]
+    fn turn(&mut self, k: usize, on: bool) -> Result<(), RoomRefusal>
+        ensures answer { result ≡ turn_answer (decoded self.old.bytes) k on }
+        ensures after { decoded self.new.bytes ≡ turn_after (decoded self.old.bytes) k on }
+        ensures bytes { self.new.bytes ≡ bytes_turned self.old.bytes k on }
     {
         let mut latches = self.latches();
-        latches[k] = on;
+        turn(&mut latches, k, on)?;
         self.bytes[LATCH_BYTE] = byte_of(latches);
+        Ok(())
     }
 }
 
+// A method that promises more than the trait says the trait's part again, since its clauses stand in the place of the trait's.
 impl Cells for RecordRoom {
     ghost meaning = { λ s. decoded s.bytes };
 
@@ -86,11 +89,8 @@ impl Cells for RecordRoom {
     }
 
     fn get(&self, c: usize) -> Option<i64> {
-        if c < CELLS {
-            cell_in(&self.bytes[CELL_BYTES * c..CELL_BYTES * c + CELL_BYTES])
-        } else {
-            None
-        }
+        let (cells, _) = self.bytes.as_chunks();
+        cell_in(cells.get(c)?)
     }
 
     fn put(&mut self, c: usize, n: i64) -> Result<(), RoomRefusal>
@@ -113,7 +113,7 @@ impl Cells for RecordRoom {
 impl Room for RecordRoom {
     const LATCHES: usize = LATCHES;
 
-    ghost latches = { 4 };
+    ghost LATCHES = { 4 };
 
     fn latch_count(&self) -> usize {
         Self::LATCHES
@@ -126,24 +126,16 @@ impl Room for RecordRoom {
     fn take(&mut self, k: usize) -> Result<(), RoomRefusal>
         ensures answer { result ≡ take_answer (decoded self.old.bytes) k }
         ensures after { decoded self.new.bytes ≡ take_after (decoded self.old.bytes) k }
-        ensures bytes { self.new.bytes ≡ (if is_free (latches_in (latch_byte self.old.bytes)) k then with_latch_bit self.old.bytes k true else self.old.bytes) }
+        ensures bytes { self.new.bytes ≡ bytes_turned self.old.bytes k true }
     {
-        if !is_free(&self.latches(), k) {
-            return Err(RoomRefusal::LatchRefused);
-        }
-        self.set_latch(k, true);
-        Ok(())
+        self.turn(k, true)
     }
 
     fn give(&mut self, k: usize) -> Result<(), RoomRefusal>
         ensures answer { result ≡ give_answer (decoded self.old.bytes) k }
         ensures after { decoded self.new.bytes ≡ give_after (decoded self.old.bytes) k }
-        ensures bytes { self.new.bytes ≡ (if is_held (latches_in (latch_byte self.old.bytes)) k then with_latch_bit self.old.bytes k false else self.old.bytes) }
+        ensures bytes { self.new.bytes ≡ bytes_turned self.old.bytes k false }
     {
-        if !is_held(&self.latches(), k) {
-            return Err(RoomRefusal::LatchRefused);
-        }
-        self.set_latch(k, false);
-        Ok(())
+        self.turn(k, false)
     }
 }

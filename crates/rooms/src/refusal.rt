@@ -1,26 +1,27 @@
-ghost use Rattle.std.specs.Prelude.{◌≡◌};
 ghost use Rattle.rooms.specs.Refusals.{refusal_number, refusal_place, bad_record_number, bad_record_place};
 
+use refusals::Refusal;
+
 // Why a room refuses a call.
-#[derive(Clone, Copy, PartialEq, Eq)]
+#[derive(Clone, Copy, PartialEq, Eq, Debug)]
 pub enum RoomRefusal {
     NoSuchCell,
     LatchRefused,
 }
 
-impl RoomRefusal {
-    pub fn number(&self) -> u8
-        ensures { result ≡ refusal_number self.now }
-    {
+impl Refusal for RoomRefusal {
+    ghost number = { refusal_number };
+
+    ghost place = { refusal_place };
+
+    fn number(&self) -> u8 {
         match self {
             RoomRefusal::NoSuchCell => 13,
             RoomRefusal::LatchRefused => 14,
         }
     }
 
-    pub fn place(&self) -> usize
-        ensures { result ≡ refusal_place self.now }
-    {
+    fn place(&self) -> usize {
         match self {
             RoomRefusal::NoSuchCell | RoomRefusal::LatchRefused => 0,
         }
@@ -28,7 +29,7 @@ impl RoomRefusal {
 }
 
 // Why bytes are no record.
-#[derive(Clone, Copy)]
+#[derive(Clone, Copy, PartialEq, Eq, Debug)]
 pub enum BadRecord {
     Length,
     // the cell with the lowest wrong mark
@@ -36,18 +37,18 @@ pub enum BadRecord {
     Latches,
 }
 
-impl BadRecord {
-    pub fn number(&self) -> u8
-        ensures { result ≡ bad_record_number self.now }
-    {
+impl Refusal for BadRecord {
+    ghost number = { bad_record_number };
+
+    ghost place = { bad_record_place };
+
+    fn number(&self) -> u8 {
         match self {
             BadRecord::Length | BadRecord::Mark(_) | BadRecord::Latches => 17,
         }
     }
 
-    pub fn place(&self) -> usize
-        ensures { result ≡ bad_record_place self.now }
-    {
+    fn place(&self) -> usize {
         match self {
             BadRecord::Length | BadRecord::Mark(_) | BadRecord::Latches => 0,
         }

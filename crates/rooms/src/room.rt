@@ -32,12 +32,11 @@ pub trait Room: Cells {
     // How many latches each room of this kind has.
     const LATCHES: usize;
 
-    // The same number, for contracts.
-    ghost latches: { ℕ };
+    ghost LATCHES: { ℕ };
 
-    // `LATCHES`, as an answer that contracts speak of.
+    // How many latches this room has: `LATCHES`. Each kind answers it itself, since it is the one that shows that its meaning has as many.
     fn latch_count(&self) -> usize
-        ensures kind { result ≡ latches }
+        ensures kind { result ≡ LATCHES }
         ensures value { result ≡ latch_count (Self.Cells.meaning self.now) }
         ensures few { result ≤ 8 };
 

@@ -1,7 +1,8 @@
-ghost use Rattle.std.specs.Prelude.{◌≡◌, length};
-ghost use Rattle.rooms.specs.Meaning.{room_of, empty, cell_answer, cell_after};
+ghost use Rattle.std.specs.Prelude.{◌≡◌};
+ghost use Rattle.rooms.specs.Meaning.{empty, cell_answer, cell_after};
+ghost use Rattle.rooms.specs.Kinds.{slot_meaning};
 
-use crate::latch::{is_free, is_held};
+use crate::latch::{is_held, turn};
 use crate::refusal::RoomRefusal;
 use crate::room::{Cells, Room};
 
@@ -14,13 +15,12 @@ const LATCHES: usize = 8;
 pub struct SlotRoom {
     cells: [Option<i64>; CELLS],
     latches: [bool; LATCHES],
-    ghost sized: { (length cells ≡ 64) × (length latches ≡ 8) },
 }
 
 impl SlotRoom {
     // Every cell unfilled, every latch free.
     pub fn new() -> SlotRoom
-        ensures { room_of result.cells result.latches ≡ empty 64 8 }
+        ensures { slot_meaning result ≡ empty 64 8 }
     {
         SlotRoom {
             cells: [None; CELLS],
@@ -30,26 +30,27 @@ impl SlotRoom {
 
     // Puts or clears a cell.
     fn write(&mut self, c: usize, v: Option<i64>) -> Result<(), RoomRefusal>
-        ensures answer { result ≡ cell_answer (room_of self.old.cells self.old.latches) c }
-        ensures after { room_of self.new.cells self.new.latches ≡ cell_after (room_of self.old.cells self.old.latches) c v }
+        ensures answer { result ≡ cell_answer (slot_meaning self.old) c }
+        ensures after { slot_meaning self.new ≡ cell_after (slot_meaning self.old) c v }
     {
         if c >= CELLS {
             return Err(RoomRefusal::NoSuchCell);
         }
+        // By index: what `get_mut` promises does not say what the cells are after the write.
         self.cells[c] = v;
         Ok(())
     }
 }
 
 impl Cells for SlotRoom {
-    ghost meaning = { λ s. room_of s.cells s.latches };
+    ghost meaning = { slot_meaning };
 
     fn size(&self) -> usize {
         CELLS
     }
 
     fn get(&self, c: usize) -> Option<i64> {
-        if c < CELLS { self.cells[c] } else { None }
+        *self.cells.get(c)?
     }
 
     fn put(&mut self, c: usize, n: i64) -> Result<(), RoomRefusal> {
@@ -64,7 +65,7 @@ impl Cells for SlotRoom {
 impl Room for SlotRoom {
     const LATCHES: usize = LATCHES;
 
-    ghost latches = { 8 };
+    ghost LATCHES = { 8 };
 
     fn latch_count(&self) -> usize {
         Self::LATCHES
@@ -75,18 +76,10 @@ impl Room for SlotRoom {
     }
 
     fn take(&mut self, k: usize) -> Result<(), RoomRefusal> {
-        if !is_free(&self.latches, k) {
-            return Err(RoomRefusal::LatchRefused);
-        }
-        self.latches[k] = true;
-        Ok(())
+        turn(&mut self.latches, k, true)
     }
 
     fn give(&mut self, k: usize) -> Result<(), RoomRefusal> {
-        if !is_held(&self.latches, k) {
-            return Err(RoomRefusal::LatchRefused);
-        }
-        self.latches[k] = false;
-        Ok(())
+        turn(&mut self.latches, k, false)
     }
 }

@@ -1,6 +1,10 @@
-ghost use Rattle.std.specs.Prelude.{◌≡◌, ◌+◌, ◌-◌, ◌<◌, ◌≤◌, min, Some, None, MatchOption};
+#![tactic(auto, using(crate::proofs::Windows::windowed))]
+
+ghost use Rattle.std.specs.Prelude.{◌≡◌, ◌+◌, if◌then◌else◌, Some, None, nat_lt};
 ghost use Rattle.rooms.specs.Meaning.{cell_answer, cell_after, take_answer, take_after, give_answer, give_after};
-ghost use Rattle.rooms.specs.Window.{seen, below_after};
+ghost use Rattle.rooms.specs.Window.{below_after};
+ghost use Rattle.rooms.specs.Kinds.{window_meaning};
+ghost use Rattle.rooms.specs.declared.refusal.RoomRefusal.TheVariants.{NoSuchCell};
 
 use crate::refusal::RoomRefusal;
 use crate::room::{Cells, Room};
@@ -29,69 +33,55 @@ impl<R: Room> Window<R> {
     {
         &self.below
     }
-}
 
-// How many cells a window shows of so many.
-fn shown(base: u8, size: usize) -> usize
-    ensures { result ≡ min (size - base) 32 }
-{
-    size.saturating_sub(usize::from(base)).min(CELLS)
-}
-
-// Which cell below a window's cell is; none where the window shows too few.
-fn reached(base: u8, c: usize) -> Option<usize>
-    ensures { MatchOption result (32 ≤ c) (λ at. (c < 32) × (at ≡ base + c)) }
-{
-    if c < CELLS {
-        Some(usize::from(base) + c)
-    } else {
-        None
+    // Which cell below the window's cell `c` is, where a window can show so many.
+    fn reached(&self, c: usize) -> Option<usize>
+        ensures { result ≡ (if nat_lt c 32 then Some (self.now.base + c) else None) }
+    {
+        (c < CELLS).then(|| usize::from(self.base) + c)
     }
 }
 
+// A method that promises more than the trait says the trait's part again, since its clauses stand in the place of the trait's.
 impl<R: Room> Cells for Window<R> {
-    ghost meaning = { λ w. seen w.base (R.Cells.meaning w.below) };
+    ghost meaning = { window_meaning R.Cells.meaning };
 
     fn size(&self) -> usize {
-        shown(self.base, self.below.size())
+        self.below
+            .size()
+            .saturating_sub(usize::from(self.base))
+            .min(CELLS)
     }
 
     fn get(&self, c: usize) -> Option<i64> {
-        match reached(self.base, c) {
-            Some(at) => self.below.get(at),
-            None => None,
-        }
+        self.below.get(self.reached(c)?)
     }
 
     fn put(&mut self, c: usize, n: i64) -> Result<(), RoomRefusal>
-        ensures answer { result ≡ cell_answer (seen self.old.base (R.Cells.meaning self.old.below)) c }
-        ensures after { seen self.new.base (R.Cells.meaning self.new.below) ≡ cell_after (seen self.old.base (R.Cells.meaning self.old.below)) c (Some n) }
+        ensures answer { result ≡ cell_answer (window_meaning R.Cells.meaning self.old) c }
+        ensures after { window_meaning R.Cells.meaning self.new ≡ cell_after (window_meaning R.Cells.meaning self.old) c (Some n) }
         ensures base { self.new.base ≡ self.old.base }
         ensures below { R.Cells.meaning self.new.below ≡ below_after self.old.base (R.Cells.meaning self.old.below) c (Some n) }
     {
-        match reached(self.base, c) {
-            Some(at) => self.below.put(at, n),
-            None => Err(RoomRefusal::NoSuchCell),
-        }
+        let at = self.reached(c).ok_or(RoomRefusal::NoSuchCell)?;
+        self.below.put(at, n)
     }
 
     fn clear(&mut self, c: usize) -> Result<(), RoomRefusal>
-        ensures answer { result ≡ cell_answer (seen self.old.base (R.Cells.meaning self.old.below)) c }
-        ensures after { seen self.new.base (R.Cells.meaning self.new.below) ≡ cell_after (seen self.old.base (R.Cells.meaning self.old.below)) c None }
+        ensures answer { result ≡ cell_answer (window_meaning R.Cells.meaning self.old) c }
+        ensures after { window_meaning R.Cells.meaning self.new ≡ cell_after (window_meaning R.Cells.meaning self.old) c None }
         ensures base { self.new.base ≡ self.old.base }
         ensures below { R.Cells.meaning self.new.below ≡ below_after self.old.base (R.Cells.meaning self.old.below) c None }
     {
-        match reached(self.base, c) {
-            Some(at) => self.below.clear(at),
-            None => Err(RoomRefusal::NoSuchCell),
-        }
+        let at = self.reached(c).ok_or(RoomRefusal::NoSuchCell)?;
+        self.below.clear(at)
     }
 }
 
 impl<R: Room> Room for Window<R> {
     const LATCHES: usize = R::LATCHES;
 
-    ghost latches = { R.Room.latches };
+    ghost LATCHES = { R.Room.LATCHES };
 
     fn latch_count(&self) -> usize {
         self.below.latch_count()
@@ -102,8 +92,8 @@ impl<R: Room> Room for Window<R> {
     }
 
     fn take(&mut self, k: usize) -> Result<(), RoomRefusal>
-        ensures answer { result ≡ take_answer (seen self.old.base (R.Cells.meaning self.old.below)) k }
-        ensures after { seen self.new.base (R.Cells.meaning self.new.below) ≡ take_after (seen self.old.base (R.Cells.meaning self.old.below)) k }
+        ensures answer { result ≡ take_answer (window_meaning R.Cells.meaning self.old) k }
+        ensures after { window_meaning R.Cells.meaning self.new ≡ take_after (window_meaning R.Cells.meaning self.old) k }
         ensures base { self.new.base ≡ self.old.base }
         ensures below { R.Cells.meaning self.new.below ≡ take_after (R.Cells.meaning self.old.below) k }
     {
@@ -111,8 +101,8 @@ impl<R: Room> Room for Window<R> {
     }
 
     fn give(&mut self, k: usize) -> Result<(), RoomRefusal>
-        ensures answer { result ≡ give_answer (seen self.old.base (R.Cells.meaning self.old.below)) k }
-        ensures after { seen self.new.base (R.Cells.meaning self.new.below) ≡ give_after (seen self.old.base (R.Cells.meaning self.old.below)) k }
+        ensures answer { result ≡ give_answer (window_meaning R.Cells.meaning self.old) k }
+        ensures after { window_meaning R.Cells.meaning self.new ≡ give_after (window_meaning R.Cells.meaning self.old) k }
         ensures base { self.new.base ≡ self.old.base }
         ensures below { R.Cells.meaning self.new.below ≡ give_after (R.Cells.meaning self.old.below) k }
     {

@@ -1,7 +1,6 @@
-use Rattle.std.proofs.Common.{◌≡◌, ◌*◌, take, drop}
-use Rattle.console.specs.Hex.{bytes_of}
-use Rattle.console.proofs.Bytes.{onto}
+use Rattle.std.proofs.Common.{◌≡◌, take, drop}
+use Rattle.console.proofs.Bytes.{bytes_in, onto}
 use Rattle.console.proofs.hex.hex_fill.Given as goal
 
 abbrev pub invariant-loop-i : goal.invariant-loop-i
-invariant-loop-i l = onto (take l.i l.out) (drop (2 * l.i) l.word) ≡ bytes_of l.word
+invariant-loop-i l = onto (take l.i l.out) (drop l.i l.pairs) ≡ bytes_in l.pairs

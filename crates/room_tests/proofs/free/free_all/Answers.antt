@@ -1,9 +1,6 @@
 use Rattle.std.proofs.Common.{arith}
-use Rattle.room_tests.proofs.Freed.{freed_first, freed_more, freed_all}
+use Rattle.room_tests.proofs.Freed.{freed_more, freed_all}
 use Rattle.room_tests.proofs.free.free_all.Goals as goal
-
-pub loop-k-init : goal.loop-k-init
-loop-k-init g c = freed_first _
 
 pub loop-k-preserved : goal.loop-k-preserved
 loop-k-preserved g c = freed_more _ _ _ _ c.give.ensures.after c.loop-k.invariant

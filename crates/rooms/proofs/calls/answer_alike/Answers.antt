@@ -1,19 +1,8 @@
 use Rattle.std.proofs.Common.{sym, refl, ap, ◌∙◌, subst}
-use Rattle.std.proofs.lemmas.List.{drop_more, drop_all}
+use Rattle.std.proofs.lemmas.List.{drop_all}
 use Rattle.rooms.specs.Calls.{answers_to, after_calls}
-use Rattle.rooms.proofs.Alike.{Kept, kept_first, kept_step, left_by}
+use Rattle.rooms.proofs.Alike.{Kept, left_by}
 use Rattle.rooms.proofs.calls.answer_alike.Goals as goal
-
-pub loop-call-init : goal.loop-call-init
-loop-call-init g c = kept_first _ _ _
-
-pub loop-call-preserved : goal.loop-call-preserved
-loop-call-preserved g c =
-    let at = c.loop-call in
-    let first = c.answer-first.ensures in
-    let second = c.answer-second.ensures in
-    kept_step _ _ _ _ _ _ _ _ _ _ _ _ _ first.answer second.answer first.after second.after c.same-alike.ensures
-    (subst (λ rest. Kept (g.A.Cells.meaning at.a) (g.B.Cells.meaning at.b) (g.A.Cells.meaning c.args.a.now) (g.B.Cells.meaning c.args.b.now) rest c.args.calls.now at.alike) (drop_more c.args.calls.now at.call-index _ c.loop-call-test.true) at.invariant)
 
 pub returns : goal.returns
 returns g c =
