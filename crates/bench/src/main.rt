@@ -3,6 +3,7 @@
 
 mod rule_text;
 
+use refusals::Refused;
 use rule_text::fill_rule;
 use rules::{Node, read};
 use std::env;
@@ -15,19 +16,14 @@ const PLACES: usize = 16384;
 const ROUNDS: u64 = 2000;
 
 fn main(rt: HostRuntime) -> anyhow::Result<()> {
-    run(&rt)
-}
-
-fn run(rt: &HostRuntime) -> anyhow::Result<()> {
     let mut text = [b' '; 16000];
     fill_rule(&mut text);
     let mut table = vec![in rt.alloc(); Node::BLANK; PLACES]?;
-    for argument in env::args(rt)? {
-        if argument.as_str() == "measure" {
-            return measure(rt, &text, &mut table);
-        }
+    if env::args(&rt)?.any(|argument| argument.as_str() == "measure") {
+        measure(&rt, &text, &mut table)
+    } else {
+        read_once(&rt, &text, &mut table)
     }
-    read_once(rt, &text, &mut table)
 }
 
 fn read_once(rt: &HostRuntime, text: &[u8], table: &mut [Node]) -> anyhow::Result<()> {
@@ -37,25 +33,16 @@ fn read_once(rt: &HostRuntime, text: &[u8], table: &mut [Node]) -> anyhow::Resul
             let nodes = reading.over(table).nodes().len();
             println!(rt; "read {bytes} bytes into {nodes} nodes")?;
         }
-        Err(why) => {
-            let number = why.number();
-            let place = why.place();
-            println!(rt; "refused {number} at {place}")?;
-        }
+        Err(why) => println!(rt; "{}", Refused(&why))?,
     }
     Ok(())
 }
 
 fn measure(rt: &HostRuntime, text: &[u8], table: &mut [Node]) -> anyhow::Result<()> {
     let start = Instant::now(rt)?;
-    let mut accepted = 0u128;
-    for _ in 0..ROUNDS {
-        if read(text, table).is_ok() {
-            accepted = accepted.saturating_add(1);
-        }
-    }
+    let accepted = (0..ROUNDS).filter(|_| read(text, table).is_ok()).count();
     let nanos = start.elapsed(rt)?.as_nanos();
-    let bytes = accepted.saturating_mul(text.len() as u128);
+    let bytes = accepted as u128 * text.len() as u128;
     let a_second = bytes.saturating_mul(1_000_000_000) / nanos.max(1);
     println!(rt; "reading: {a_second} bytes a second")?;
     Ok(())

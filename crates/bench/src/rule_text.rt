@@ -1,17 +1,17 @@
-// A statement of 40 bytes, and one like it that ends a list.
+// A statement of 40 bytes, which others can follow in a list, and a last one.
 const STATEMENT: &[u8; 40] = b"if 61 <= m then f := f+2 else skip end; ";
 
-// Fills a text with a rule: statements as long as there is room, a last one, and blanks.
+const LAST: &[u8; 5] = b"leave";
+
+// Fills a text with a rule: statements as long as there is room, a last one, and then what was there.
 pub(crate) fn fill_rule(text: &mut [u8]) {
-    let last = b"leave";
-    let len = text.len();
-    let room = len.saturating_sub(last.len());
-    let whole = room - room % 40;
-    for (i, b) in text.iter_mut().enumerate() {
-        if i < whole {
-            *b = STATEMENT[i % 40];
-        } else if i < whole + 5 {
-            *b = last[i - whole];
-        }
+    let whole = text.len().saturating_sub(LAST.len()) / STATEMENT.len();
+    let bytes = STATEMENT
+        .iter()
+        .cycle()
+        .take(whole * STATEMENT.len())
+        .chain(LAST);
+    for (b, new) in text.iter_mut().zip(bytes) {
+        *b = *new;
     }
 }

@@ -1,4 +1,5 @@
 -- Tokens have at most one tree.
+use Rattle.std.proofs.lemmas.Bool.{and_parts}
 use Rattle.std.proofs.Common.{◌≡◌, ℕ, zero, suc, ◌<◌, Bool, true, false, not, ◌&&◌, List, [], ◌∷◌, length, sym, refl, ap, subst, true≢false, arith}
 use mathlib.Core.Bool.{false≢true}
 use Rattle.tokens.specs.Lexemes.{same_lexeme}
@@ -93,16 +94,12 @@ ends statement r = off_sum r
 ends list r = off_sum r && off lexeme.Semicolon r
 ends rule r = off_sum r && off lexeme.Semicolon r
 
-both_true : (a b : Bool) → (a && b) ≡ true → a ≡ true
-both_true true b e = refl
-both_true false b e = e
-
 ends_part : {c : Class} {X Y : Sort c} (r : List Spot) → Joined c X Y → ends X r ≡ true → ends Y r ≡ true
 ends_part r joined_names e = refl
-ends_part r joined_sum e = both_true (off lexeme.Times r) _ e
+ends_part r joined_sum e = (and_parts (off lexeme.Times r) _ e).0
 ends_part r joined_term e = refl
-ends_part r joined_cond e = both_true (off_sum r) _ e
-ends_part r joined_list e = both_true (off_sum r) _ e
+ends_part r joined_cond e = (and_parts (off_sum r) _ e).0
+ends_part r joined_list e = (and_parts (off_sum r) _ e).0
 
 -- a lexeme that joins an X does not end it
 goes_on : {c : Class} {X : Sort c} {m : Lexeme} (p : ℕ) (s : List Spot) → Joins c X m → ends X (at p (fixed m) ∷ s) ≡ true → ⊥

@@ -1,20 +1,21 @@
 -- The ends of a reading: the first token, the last, and the table.
-use Rattle.std.proofs.Common.{◌≡◌, ℕ, suc, ◌+◌, ◌-◌, ◌^◌, ◌<◌, ◌≤◌, ◌⊎◌, List, [], ◌∷◌, ◌++◌, length, take, drop, set, replicate, Some, None, Option, unwrap_or, sym, refl, ap, ◌∙◌, subst, inl, inr, append-nil, arith, length-drop, length-set, Bor}
+use Rattle.std.proofs.Common.{◌≡◌, ℕ, suc, ◌+◌, ◌-◌, ◌<◌, ◌≤◌, ◌⊎◌, List, [], ◌∷◌, ◌++◌, length, take, drop, map, set, replicate, Some, None, Option, unwrap_or, sym, refl, ap, ◌∙◌, subst, inl, inr, append-nil, arith, length-drop, length-append, length-set, Bor}
 use borrow.Rule.Slice.PartMut.{put_mid}
 use Rattle.std.specs.Slice.{IsGetRangeResult}
-use Rattle.std.proofs.lemmas.List.{take_all, drop_all}
-use Rattle.tokens.specs.Tokens.{tokens_of, names_after, names_of}
+use Rattle.std.proofs.lemmas.List.{take_all, drop_all, length-take-le, length-replicate}
+use Rattle.tokens.specs.Tokens.{Spot, tokens_of, names_after, names_of}
 use Rattle.tokens.specs.Lexing.{symbol, with_token}
 use Rattle.tokens.specs.declared.token.Token.{Token}
 use Rattle.tokens.specs.declared.token.Token.TheVariants as token
-use Rattle.tokens.proofs.Scans.{length_tokens}
 use Rattle.grammar.specs.Trees.{Rule}
 use Rattle.grammar.specs.Grammar.{rules, rule, limits, Derives, Whole}
 use Rattle.grammar.specs.Automaton.{need, judge}
-use Rattle.rules.specs.Accepted.{refusal_of}
+use Rattle.rules.specs.Refusals.{refusal_of}
+use Rattle.rules.specs.Names.{words_of}
+use Rattle.rules.specs.declared.names.Names.{Names}
 use Rattle.rules.specs.Nodes.{blank, size, nodes, table_of, written}
 use Rattle.rules.specs.Reading.{longest, Reads, accepted, refused, read, full}
-use Rattle.rules.specs.Readers.{text_of, names_in, rest, verdict, said, Ruled}
+use Rattle.rules.specs.Readers.{text_of, names_in, rest, verdict, said, Fails, Ruled}
 use Rattle.rules.specs.declared.fault.Fault.{Fault}
 use Rattle.rules.specs.declared.fault.Fault.TheVariants as fault
 use Rattle.rules.specs.declared.node.Node.{Node}
@@ -27,19 +28,23 @@ use Rattle.rules.proofs.Turns.{Stops, misfits}
 
 -- ## Tokens
 
-pub none_left : (r : Reader) → r.token ≡ token.EndOfText → rest r ≡ []
-none_left r e = ap (λ t. with_token (names_in r) r.place t r.at (text_of r)) e
+pub none_left : (r : Reader) → r.current.token ≡ token.EndOfText → rest r ≡ []
+none_left r e = ap (λ t. with_token (names_in r) r.current.place t r.current.end (text_of r)) e
 
-pub some_left : (r : Reader) → (r.token ≡ token.EndOfText → ⊥) → rest r ≡ [] → ⊥
-some_left r h = there r.token h
+pub some_left : (r : Reader) → (r.current.token ≡ token.EndOfText → ⊥) → rest r ≡ [] → ⊥
+some_left r h = there r.current.token h
   where
-    there : (t : Token) → (t ≡ token.EndOfText → ⊥) → with_token (names_in r) r.place t r.at (text_of r) ≡ [] → ⊥
+    there : (t : Token) → (t ≡ token.EndOfText → ⊥) → with_token (names_in r) r.current.place t r.current.end (text_of r) ≡ [] → ⊥
     there (token.Name w) h e = let z : ◌≡◌ {A = ℕ} 0 1 = cc in omega arith
     there (token.Number w) h e = let z : ◌≡◌ {A = ℕ} 0 1 = cc in omega arith
     there (token.Keyword m w) h e = let z : ◌≡◌ {A = ℕ} 0 1 = cc in omega arith
     there (token.Sign m) h e = let z : ◌≡◌ {A = ℕ} 0 1 = cc in omega arith
     there token.Stray h e = let z : ◌≡◌ {A = ℕ} 0 1 = cc in omega arith
     there token.EndOfText h e = h refl
+
+-- the tokens before a reader that has no names yet
+pub first_tokens : (names : Names) (t : Token) (p i : ℕ) (text : List ℕ) {from : List (List ℕ) → List Spot} → names.count ≡ 0 → ((ns : List (List ℕ)) → with_token ns p t i text ≡ from ns) → with_token (words_of names) p t i text ≡ from []
+first_tokens names t p i text none h = ap (λ n. with_token (take n (map (λ x. x.now) names.words)) p t i text) none ∙ h []
 
 -- where nothing is needed, no token fits
 too_many : (t : Token) (names : List (List ℕ)) → (t ≡ token.EndOfText → ⊥) → Stops (symbol names t) []
@@ -51,36 +56,36 @@ too_many token.Stray names h = refl
 too_many token.EndOfText names h = absurd (h refl)
 
 module _ (text : List ℕ) (n : ℕ) (r : Reader) (begins : rest r ≡ tokens_of text) (is_text : text_of r ≡ text) (short : length text ≤ longest) where
-  pub roomy : r.count ≡ 0 → r.count + length (rest r) < 2 ^ 64
-  roomy e = let a = length_tokens 0 0 [] text in let b = ap length begins in omega arith
-
   from_text : judge (length text) (tokens_of text) (need rule limits ∷ []) ≡ verdict r (need rule limits ∷ [])
   from_text = λ k. judge (length (sym is_text k)) (sym begins k) (need rule limits ∷ [])
 
-  some_tokens : (r.token ≡ token.EndOfText → ⊥) → tokens_of text ≡ [] → ⊥
+  some_tokens : (r.current.token ≡ token.EndOfText → ⊥) → tokens_of text ≡ [] → ⊥
   some_tokens h e = some_left r h (begins ∙ e)
 
-  pub fails : (f : Fault) → (r.token ≡ token.EndOfText → ⊥) → verdict r (need rule limits ∷ []) ≡ said f → Reads text n (refused (refusal_of f))
-  fails f h e = refused_by text n f short (some_tokens h) (from_text ∙ e)
+  said_of : (f : Fault) → (r.current.token ≡ token.EndOfText → ⊥) → verdict r (need rule limits ∷ []) ≡ said f → Reads text n (refused (refusal_of f))
+  said_of f h e = refused_by text n f short (some_tokens h) (from_text ∙ e)
 
-  module _ (q : Reader) (given : ℕ) (old new : List Node) (h : Ruled r q given old new) where
-    pub goes_on : (r.token ≡ token.EndOfText → ⊥) → (q.token ≡ token.EndOfText → ⊥) → Reads text n (refused (Misfit q.place))
-    goes_on some more = fails (fault.Misfit q.place) some (h.goes [] ∙ misfits q [] (too_many q.token (names_in q) more))
+  pub fails : (f : Fault) {q : Reader} → (r.current.token ≡ token.EndOfText → ⊥) → Fails (need rule limits) r q f → Reads text n (refused (refusal_of f))
+  fails f h e = said_of f h (e.1 [])
 
-    whole : q.token ≡ token.EndOfText → Whole limits (tokens_of text) h.tree
+  module _ (q : Reader) (given : ℕ) (h : Ruled r q given) where
+    pub goes_on : (r.current.token ≡ token.EndOfText → ⊥) → (q.current.token ≡ token.EndOfText → ⊥) → Reads text n (refused (Misfit q.current.place))
+    goes_on some more = said_of (fault.Misfit q.current.place) some (h.goes [] ∙ misfits q [] (too_many q.current.token (names_in q) more))
+
+    whole : q.current.token ≡ token.EndOfText → Whole limits (tokens_of text) h.tree
     whole e = subst (λ s. Derives rules rule limits s h.tree []) begins (subst (λ s. Derives rules rule limits (rest r) h.tree s) (none_left q e) h.derived)
 
-    pub too_full : r.count ≡ 0 → q.token ≡ token.EndOfText → n < q.count → Reads text n (refused TableFull)
+    pub too_full : r.count ≡ 0 → q.current.token ≡ token.EndOfText → n < q.count → Reads text n (refused TableFull)
     too_full z e l = full short (whole e) (let a = h.counted in omega arith)
 
-    pub accepts : r.count ≡ 0 → q.token ≡ token.EndOfText → q.count ≤ n → Reads text n (accepted h.tree)
+    pub accepts : r.count ≡ 0 → q.current.token ≡ token.EndOfText → q.count ≤ n → Reads text n (accepted h.tree)
     accepts z e l = read short (whole e) (let a = h.counted in omega arith)
 
-    pub all_names : q.token ≡ token.EndOfText → names_in q ≡ names_of text
-    all_names e = sym (ap (names_after (names_in q)) (none_left q e)) ∙ q.numbered ∙ ap names_of (h.text ∙ is_text)
+    pub all_names : q.current.token ≡ token.EndOfText → names_in q ≡ names_of text
+    all_names e = sym (ap (names_after (names_in q)) (none_left q e)) ∙ q.numbered ∙ ap names_of (h.along.text ∙ is_text)
 
-    pub how_many : q.token ≡ token.EndOfText → q.names.count ≡ length (names_of text)
-    how_many e = let a = q.few in let b = q.places in sym (length_kept q.names.words q.names.count (omega arith)) ∙ ap length (all_names e)
+    pub how_many : q.current.token ≡ token.EndOfText → q.names.count ≡ length (names_of text)
+    how_many e = let a = q.names.few in let b = q.names.places in sym (length_kept q.names.words q.names.count (omega arith)) ∙ ap length (all_names e)
 
 -- ## Tables
 
@@ -116,6 +121,13 @@ blanked xs ys i h e =
     let b : length (take (length xs - i) (drop i xs)) ≡ length xs - i = ap length a ∙ d in
     let g : drop (length xs - i) (drop i xs) ≡ [] = drop_all (length xs - i) (drop i xs) (omega arith) in
     (λ k. take i xs ++ ((e ∙ ap (λ n. replicate n blank) b) k ++ g k)) ∙ ap (λ l. take i xs ++ l) (append-nil (replicate (length xs - i) blank))
+
+pub same_places : (xs : List Node) (i : ℕ) {ys : List Node} → i ≤ length xs → ys ≡ take i xs ++ replicate (length xs - i) blank → length ys ≡ length xs
+same_places xs i h e =
+    let a = length-append (take i xs) (replicate (length xs - i) blank) in
+    let b = length-take-le i xs h in
+    let d = length-replicate (length xs - i) blank in
+    ap length e ∙ omega arith
 
 -- the part of a table up to n, or all of a smaller one
 pub front_part : (n : ℕ) (t : Bor (List Node)) (r : Option (Bor (List Node))) → IsGetRangeResult t.now 0 n r → (unwrap_or r t).now ≡ take n t.now

@@ -2,6 +2,7 @@ mod Numbering
 mod Passing
 pub mod Sizes
 mod Turns
+mod Chains
 mod SumTurns
 mod CondTurns
 mod StatementTurns

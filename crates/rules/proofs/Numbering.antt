@@ -1,10 +1,11 @@
 -- Names and their cells: the words that the code keeps against the numbering of the definitions.
-use Rattle.std.proofs.Common.{◌≡◌, ℕ, zero, suc, ◌+◌, ◌<◌, ◌≤◌, Bool, true, false, cond, List, [], ◌∷◌, ◌++◌, map, length, get_or, take, drop, set, Some, None, Option, sym, refl, ap, ◌∙◌, arith, Bor}
-use Rattle.std.specs.Option.{option_map}
-use Rattle.std.specs.Slice.{IsGetResult}
-use Rattle.std.specs.List.{slice_get}
+use Rattle.std.proofs.Common.{◌≡◌, ℕ, zero, suc, ◌+◌, ◌<◌, ◌≤◌, Bool, true, false, cond, List, [], ◌∷◌, ◌++◌, map, length, take, set, Some, None, Option, not, nat_lt, sym, refl, ap, ◌∙◌, subst, arith, Bor, MatchOption}
+use Rattle.std.specs.List.{position, position_or_len}
 use Rattle.std.specs.Str.{bytes_eq}
-use Rattle.std.proofs.lemmas.Option.{slice_get_read, slice_get_past}
+use Rattle.std.proofs.lemmas.Grind.{common_steps}
+use Rattle.std.proofs.lemmas.List.{length-take-le, take-map}
+use Rattle.std.proofs.lemmas.List.Sums.{prefix_len-le-length}
+use Rattle.std.proofs.lemmas.List.Recursion.{is_position_or_len}
 use Rattle.std.proofs.lemmas.Slice.Eq.{bytes_eq-Decides}
 use Rattle.tokens.specs.Tokens.{cell_of, with_name}
 
@@ -16,64 +17,24 @@ Word = Bor (List ℕ)
 abbrev pub kept : ℕ → List Word → List (List ℕ)
 kept n words = take n (map (λ x. x.now) words)
 
-nth_kept : (words : List Word) (n i : ℕ) → i < n → slice_get (kept n words) i ≡ option_map (λ x. x.now) (slice_get words i)
-nth_kept [] zero i h = absurd (omega arith)
-nth_kept [] (suc n) i h = refl
-nth_kept (w ∷ words) zero i h = absurd (omega arith)
-nth_kept (w ∷ words) (suc n) zero h = refl
-nth_kept (w ∷ words) (suc n) (suc i) h = nth_kept words n i (omega arith)
-
-pub nth_none : (words : List Word) (n i : ℕ) → n ≤ i → slice_get (kept n words) i ≡ None
-nth_none [] zero i h = refl
-nth_none [] (suc n) i h = refl
-nth_none (w ∷ words) zero i h = refl
-nth_none (w ∷ words) (suc n) zero h = absurd (omega arith)
-nth_none (w ∷ words) (suc n) (suc i) h = nth_none words n i (omega arith)
-
-lent : (words : List Word) (i : ℕ) (r : Option (Bor Word)) → IsGetResult words i i r → option_map (λ x. x.now) r ≡ slice_get words i
-lent words i None h = sym (slice_get_past words i h.3)
-lent words i (Some x) h = sym (slice_get_read words (length words) i x.now refl h.3.0 h.1)
-
-pub got_name : (words : List Word) (n i : ℕ) (r : Option (Bor Word)) (q : Option Word) → i < n → IsGetResult words i i r → q ≡ option_map (λ x. x.now) r → option_map (λ x. x.now) q ≡ slice_get (kept n words) i
-got_name words n i r q h item is = ap (option_map (λ x. x.now)) (is ∙ lent words i r item) ∙ sym (nth_kept words n i h)
-
 pub length_kept : (words : List Word) (n : ℕ) → n ≤ length words → length (kept n words) ≡ n
 length_kept [] zero h = refl
 length_kept [] (suc n) h = absurd (omega arith)
 length_kept (w ∷ words) zero h = refl
 length_kept (w ∷ words) (suc n) h = ap suc (length_kept words n (omega arith))
 
-at_word : (words : List Word) (n i : ℕ) (d : Word) → i < n → n ≤ length words → drop i (kept n words) ≡ (get_or words i d).now ∷ drop (i + 1) (kept n words)
-at_word [] n i d h g = absurd (omega arith)
-at_word (w ∷ words) zero i d h g = absurd (omega arith)
-at_word (w ∷ words) (suc n) zero d h g = refl
-at_word (w ∷ words) (suc n) (suc i) d h g = let e : suc (i + 1) ≡ suc i + 1 = omega arith in at_word words n i d (omega arith) (omega arith) ∙ ap (λ j. (get_or words i d).now ∷ drop j (w.now ∷ kept n words)) e
-
-module _ (words : List Word) (n i : ℕ) (d : Word) (w : List ℕ) (h : i < n) (g : n ≤ length words) where
-  pub word_found : true ≡ bytes_eq (get_or words i d).now w → i + cell_of (drop i (kept n words)) w ≡ i
-  word_found e =
-      let a : cell_of (drop i (kept n words)) w ≡ 0 = ap (λ l. cell_of l w) (at_word words n i d h g) ∙ ap (λ c. cond c 0 (suc (cell_of (drop (i + 1) (kept n words)) w))) (sym e) in
-      omega arith
-
-  pub word_differs : false ≡ bytes_eq (get_or words i d).now w → i + 1 + cell_of (drop (i + 1) (kept n words)) w ≡ i + cell_of (drop i (kept n words)) w
-  word_differs e =
-      let a : cell_of (drop i (kept n words)) w ≡ suc (cell_of (drop (i + 1) (kept n words)) w) = ap (λ l. cell_of l w) (at_word words n i d h g) ∙ ap (λ c. cond c 0 (suc (cell_of (drop (i + 1) (kept n words)) w))) (sym e) in
-      omega arith
-
-drop_kept : (words : List Word) (n : ℕ) → drop n (kept n words) ≡ []
-drop_kept [] zero = refl
-drop_kept [] (suc n) = refl
-drop_kept (w ∷ words) zero = refl
-drop_kept (w ∷ words) (suc n) = drop_kept words n
-
-pub no_word : (words : List Word) (n : ℕ) (w : List ℕ) → n + cell_of (drop n (kept n words)) w ≡ n
-no_word words n w = let a : cell_of (drop n (kept n words)) w ≡ 0 = ap (λ l. cell_of l w) (drop_kept words n) in omega arith
+-- the cell of a word is where it is found, or else the next place
+pub found_cell : (words : List Word) (n : ℕ) (w : List ℕ) (o : Option ℕ) → n ≤ length words → o ≡ position (λ x. bytes_eq x.now w) (take n words) → MatchOption o (n ≡ cell_of (kept n words) w) (λ i. (i ≡ cell_of (kept n words) w) × (i < n))
+found_cell words n w o h e =
+    let p : Word → Bool = λ x. bytes_eq x.now w in
+    let is : cell_of (kept n words) w ≡ position_or_len p (take n words) = ap (λ l. cell_of l w) (take-map (λ x. x.now) n words) ∙ is_position_or_len (λ l. cell_of (map (λ x. x.now) l) w) p refl (λ x xs. ap (λ m. cond (p x) 0 m) (omega arith)) (take n words) in
+    subst (λ q. MatchOption q (n ≡ cell_of (kept n words) w) (λ i. (i ≡ cell_of (kept n words) w) × (i < n))) (sym e) (place (position_or_len p (take n words)) (length (take n words)) (nat_lt (position_or_len p (take n words)) (length (take n words))) refl is (length-take-le n words h) (prefix_len-le-length (λ x. not (p x)) (take n words)))
+  where
+    place : (i m : ℕ) (b : Bool) → nat_lt i m ≡ b → cell_of (kept n words) w ≡ i → m ≡ n → i ≤ m → MatchOption (cond b (Some i) None) (n ≡ cell_of (kept n words) w) (λ j. (j ≡ cell_of (kept n words) w) × (j < n))
+    place i m true e is g h = grind (arith, common_steps)
+    place i m false e is g h = grind (arith, common_steps)
 
 -- ## One more word
-
-pick : (c : Bool) → ((c ≡ true) → ⊥) → c ≡ false
-pick true h = absurd (h refl)
-pick false h = refl
 
 known : (names : List (List ℕ)) (w : List ℕ) → cell_of names w < length names → with_name names w ≡ names
 known [] w h = absurd (omega arith)

@@ -10,7 +10,7 @@ use Rattle.grammar.specs.Laws.{Fate, a_rule, no_rule, too_much}
 use Rattle.grammar.proofs.Fates.{one_fate_only}
 use Rattle.grammar.proofs.Unique.{one_tree, sized as fewer}
 use Rattle.grammar.proofs.Verdicts.{judged}
-use Rattle.rules.specs.Accepted.{refusal_of}
+use Rattle.rules.specs.Refusals.{refusal_of}
 use Rattle.rules.specs.Nodes.{size}
 use Rattle.rules.specs.Reading.{longest, Outcome, accepted, refused, Reads, too_long, empty, misfit, limit, full, read, OneOutcome}
 use Rattle.rules.specs.Readers.{said}

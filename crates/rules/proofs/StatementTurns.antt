@@ -1,39 +1,38 @@
 -- The turns of the readers of lists and statements.
-use Rattle.std.proofs.Common.{◌≡◌, ℕ, ◌+◌, true, leb, List, [], ◌∷◌, set, sym, refl, ap, ◌∙◌, subst, arith}
+use Rattle.std.proofs.Common.{◌≡◌, ℕ, ◌+◌, true, leb, List, ◌∷◌, set, sym, refl, ap, ◌∙◌, subst, arith}
 use Rattle.tokens.specs.Tokens.{name, number, fixed, at}
 use Rattle.tokens.specs.declared.lexeme.Lexeme.TheVariants as lexeme
 use Rattle.grammar.specs.Trees as tree
 use Rattle.grammar.specs.Grammar.{sums, conds, statements, Bound, within, sum, cond, statement, list, Derives, a_skip, a_leave, an_assignment, an_if, a_while, a_hold}
 use Rattle.grammar.specs.Automaton.{Need, need, this, latch, over, go, when}
 use Rattle.rules.specs.Nodes.{node}
-use Rattle.rules.specs.Readers.{rest, Past, Wrote, Named, verdict, WholeOf}
+use Rattle.rules.specs.Readers.{rest, Past, Wrote, Leaf, Named, verdict, WholeOf, table_in}
 use Rattle.rules.specs.declared.node.Kind.TheVariants as kind
-use Rattle.rules.specs.declared.node.Node.{Node}
 use Rattle.rules.specs.declared.reader.Reader.{Reader}
 use Rattle.rules.proofs.Sizes.{one_node, two_nodes, three_nodes}
-use Rattle.rules.proofs.Turns.{onward, inside_of, opens, expected, wrote_verdict, got, part, leaf}
+use Rattle.rules.proofs.Turns.{◌>>◌, onward, inside_of, opens, expected, wrote_verdict, got, part, leaf}
 
 -- ## `skip` and `leave`
 
-pub skip_read : {d root p : ℕ} {r q o : Reader} {old new : List Node} → Past (fixed lexeme.Skip) r q → p ≡ r.place → Wrote (node p kind.Skip) q o old new → root ≡ q.count → WholeOf statement d r o root old new
-skip_read {p} {r} past is wrote at-root = leaf statement (fixed lexeme.Skip) (tree.skip r.place) (node p kind.Skip) (λ z. a_skip) (λ k. refl) refl (ap (λ o. node o kind.Skip ∷ []) (sym is)) past wrote at-root
+pub skip_read : {d root : ℕ} {r o : Reader} → Leaf (fixed lexeme.Skip) kind.Skip r o root → WholeOf statement d r o root
+skip_read {r = r} l = leaf statement (fixed lexeme.Skip) (tree.skip r.current.place) (node r.current.place kind.Skip) (λ z. a_skip) (λ k. refl) refl refl l.past l.wrote l.number
 
-pub leave_read : {d root p : ℕ} {r q o : Reader} {old new : List Node} → Past (fixed lexeme.Leave) r q → p ≡ r.place → Wrote (node p kind.Leave) q o old new → root ≡ q.count → WholeOf statement d r o root old new
-leave_read {p} {r} past is wrote at-root = leaf statement (fixed lexeme.Leave) (tree.leave r.place) (node p kind.Leave) (λ z. a_leave) (λ k. refl) refl (ap (λ o. node o kind.Leave ∷ []) (sym is)) past wrote at-root
+pub leave_read : {d root : ℕ} {r o : Reader} → Leaf (fixed lexeme.Leave) kind.Leave r o root → WholeOf statement d r o root
+leave_read {r = r} l = leaf statement (fixed lexeme.Leave) (tree.leave r.current.place) (node r.current.place kind.Leave) (λ z. a_leave) (λ k. refl) refl refl l.past l.wrote l.number
 
 -- ## Assignments
 
-pub assign_read : {d l root cell : ℕ} {r q1 q2 q3 o : Reader} {old mid new : List Node} → Named cell r q1 → Past (fixed lexeme.Becomes) q1 q2 → WholeOf sum d q2 q3 l old mid → Wrote (node r.place (kind.Assign cell l)) q3 o mid new → root ≡ q3.count → WholeOf statement d r o root old new
-assign_read {d} {l} {root} {cell} {r} {q1} {q2} {q3} {o} {old} {mid} {new} n becomes g wrote at-root =
+pub assign_read : {d l root cell : ℕ} {r q1 q2 q3 o : Reader} → Named cell r q1 → Past (fixed lexeme.Becomes) q1 q2 → WholeOf sum d q2 q3 l → Wrote (node r.current.place (kind.Assign cell l)) q3 o → root ≡ q3.count → WholeOf statement d r o root
+assign_read {d} {l} {root} {cell} {r} {q1} {q2} {q3} {o} n becomes g wrote at-root =
     let t = g.tree in
     let first = n.past in
-    let w = tree.assign r.place cell t in
+    let w = tree.assign r.current.place cell t in
     got w
-    (subst (λ s. Derives statements statement (within d) s w (rest o)) (sym (first.spot ∙ ap (λ s. at r.place (name n.word cell) ∷ s) becomes.spot)) (an_assignment n.fits (subst (λ s. Derives sums sum (within d) (rest q2) t s) (sym wrote.rest_stays) g.derived)))
+    (subst (λ s. Derives statements statement (within d) s w (rest o)) (sym (first.spot ∙ ap (λ s. at r.current.place (name n.word cell) ∷ s) becomes.spot)) (an_assignment n.fits (subst (λ s. Derives sums sum (within d) (rest q2) t s) (sym wrote.rest_stays) g.derived)))
     (let a = first.count in let e = becomes.count in let b = wrote.count in let m = g.counted in omega arith)
     (let b = wrote.count in omega arith)
-    (wrote.table ∙ one_node statements r.place t w (kind.Assign cell) refl (part (becomes.count ∙ first.count) refl g))
-    (wrote.text ∙ g.text ∙ becomes.text ∙ first.text)
+    (wrote.table ∙ one_node statements r.current.place t w (kind.Assign cell) refl (part (becomes.count ∙ first.count) (becomes.table ∙ first.table) refl refl g))
+    (first.along >> becomes.along >> g.along >> wrote.along)
     (λ k. onward (need statement (within d) ∷ k) (this lexeme.Becomes ∷ need sum (within d) ∷ k) first (ap (λ b. when b (go (this lexeme.Becomes ∷ need sum (within d) ∷ k)) over) n.fits) ∙ expected becomes (need sum (within d) ∷ k) ∙ g.goes k ∙ wrote_verdict wrote k)
 
 -- ## What is needed after the lexemes of `if`, `while` and `hold`
@@ -64,41 +63,41 @@ latched d h past k = onward (latch (within d) ∷ k) k past (ap (λ b. when b (g
 
 -- ## `if`, `while` and `hold`
 
-pub if_read : {d e l x y root p : ℕ} {r q1 q2 q3 q4 q5 q6 q7 o : Reader} {old n1 n2 n3 new : List Node} → d ≡ e + 1 → Past (fixed lexeme.If) r q1 → WholeOf cond e q1 q2 l old n1 → Past (fixed lexeme.Then) q2 q3 → WholeOf list e q3 q4 x n1 n2 → Past (fixed lexeme.Else) q4 q5 → WholeOf list e q5 q6 y n2 n3 → Past (fixed lexeme.End) q6 q7 → p ≡ r.place → Wrote (node p (kind.If l x y)) q7 o n3 new → root ≡ q7.count → WholeOf statement d r o root old new
-if_read {d} {e} {l} {x} {y} {root} {p} {r} {q1} {q2} {q3} {q4} {q5} {q6} {q7} {o} {old} {n1} {n2} {n3} {new} h first g then-past a else-past b end-past is wrote at-root =
+pub if_read : {d e l x y root p : ℕ} {r q1 q2 q3 q4 q5 q6 q7 o : Reader} → d ≡ e + 1 → Past (fixed lexeme.If) r q1 → WholeOf cond e q1 q2 l → Past (fixed lexeme.Then) q2 q3 → WholeOf list e q3 q4 x → Past (fixed lexeme.Else) q4 q5 → WholeOf list e q5 q6 y → Past (fixed lexeme.End) q6 q7 → p ≡ r.current.place → Wrote (node p (kind.If l x y)) q7 o → root ≡ q7.count → WholeOf statement d r o root
+if_read {d} {e} {l} {x} {y} {root} {p} {r} {q1} {q2} {q3} {q4} {q5} {q6} {q7} {o} h first g then-past a else-past b end-past is wrote at-root =
     let t = g.tree in
     let u = a.tree in
     let v = b.tree in
-    let w = tree.choose r.place t u v in
+    let w = tree.choose r.current.place t u v in
     got w
-    (subst (λ s. Derives statements statement (within d) s w (rest o)) (sym first.spot) (subst (λ s. Derives statements statement (within d) (at r.place (fixed lexeme.If) ∷ rest q1) w s) (sym wrote.rest_stays) (an_if (inside_of d e h) (subst (λ s. Derives conds cond (within e) (rest q1) t s) then-past.spot g.derived) (subst (λ s. Derives statements list (within e) (rest q3) u s) else-past.spot a.derived) (subst (λ s. Derives statements list (within e) (rest q5) v s) end-past.spot b.derived))))
+    (subst (λ s. Derives statements statement (within d) s w (rest o)) (sym first.spot) (subst (λ s. Derives statements statement (within d) (at r.current.place (fixed lexeme.If) ∷ rest q1) w s) (sym wrote.rest_stays) (an_if (inside_of d e h) (subst (λ s. Derives conds cond (within e) (rest q1) t s) then-past.spot g.derived) (subst (λ s. Derives statements list (within e) (rest q3) u s) else-past.spot a.derived) (subst (λ s. Derives statements list (within e) (rest q5) v s) end-past.spot b.derived))))
     (let c0 = first.count in let c1 = g.counted in let c2 = then-past.count in let c3 = a.counted in let c4 = else-past.count in let c5 = b.counted in let c6 = end-past.count in let c7 = wrote.count in omega arith)
     (let c7 = wrote.count in omega arith)
-    (wrote.table ∙ ap (λ o. set n3 q7.count (node o (kind.If l x y))) is ∙ three_nodes statements r.place t u v w kind.If refl (part first.count refl g) (part then-past.count refl a) (part else-past.count end-past.count b))
-    (wrote.text ∙ end-past.text ∙ b.text ∙ else-past.text ∙ a.text ∙ then-past.text ∙ g.text ∙ first.text)
+    (wrote.table ∙ ap (λ o. set (table_in q7) q7.count (node o (kind.If l x y))) is ∙ three_nodes statements r.current.place t u v w kind.If refl (part first.count first.table refl refl g) (part then-past.count then-past.table refl refl a) (part else-past.count else-past.table end-past.count end-past.table b))
+    (first.along >> g.along >> then-past.along >> a.along >> else-past.along >> b.along >> end-past.along >> wrote.along)
     (λ k. chooses d e h first k ∙ g.goes (after_test (within e) k) ∙ expected then-past (need list (within e) ∷ after_first (within e) k) ∙ a.goes (after_first (within e) k) ∙ expected else-past (need list (within e) ∷ after_second k) ∙ b.goes (after_second k) ∙ expected end-past k ∙ wrote_verdict wrote k)
 
-pub while_read : {d e l x root p : ℕ} {r q1 q2 q3 q4 q5 o : Reader} {old n1 n2 new : List Node} → d ≡ e + 1 → Past (fixed lexeme.While) r q1 → WholeOf cond e q1 q2 l old n1 → Past (fixed lexeme.Do) q2 q3 → WholeOf list e q3 q4 x n1 n2 → Past (fixed lexeme.End) q4 q5 → p ≡ r.place → Wrote (node p (kind.While l x)) q5 o n2 new → root ≡ q5.count → WholeOf statement d r o root old new
-while_read {d} {e} {l} {x} {root} {p} {r} {q1} {q2} {q3} {q4} {q5} {o} {old} {n1} {n2} {new} h first g do-past a end-past is wrote at-root =
+pub while_read : {d e l x root p : ℕ} {r q1 q2 q3 q4 q5 o : Reader} → d ≡ e + 1 → Past (fixed lexeme.While) r q1 → WholeOf cond e q1 q2 l → Past (fixed lexeme.Do) q2 q3 → WholeOf list e q3 q4 x → Past (fixed lexeme.End) q4 q5 → p ≡ r.current.place → Wrote (node p (kind.While l x)) q5 o → root ≡ q5.count → WholeOf statement d r o root
+while_read {d} {e} {l} {x} {root} {p} {r} {q1} {q2} {q3} {q4} {q5} {o} h first g do-past a end-past is wrote at-root =
     let t = g.tree in
     let u = a.tree in
-    let w = tree.loop r.place t u in
+    let w = tree.loop r.current.place t u in
     got w
-    (subst (λ s. Derives statements statement (within d) s w (rest o)) (sym first.spot) (subst (λ s. Derives statements statement (within d) (at r.place (fixed lexeme.While) ∷ rest q1) w s) (sym wrote.rest_stays) (a_while (inside_of d e h) (subst (λ s. Derives conds cond (within e) (rest q1) t s) do-past.spot g.derived) (subst (λ s. Derives statements list (within e) (rest q3) u s) end-past.spot a.derived))))
+    (subst (λ s. Derives statements statement (within d) s w (rest o)) (sym first.spot) (subst (λ s. Derives statements statement (within d) (at r.current.place (fixed lexeme.While) ∷ rest q1) w s) (sym wrote.rest_stays) (a_while (inside_of d e h) (subst (λ s. Derives conds cond (within e) (rest q1) t s) do-past.spot g.derived) (subst (λ s. Derives statements list (within e) (rest q3) u s) end-past.spot a.derived))))
     (let c0 = first.count in let c1 = g.counted in let c2 = do-past.count in let c3 = a.counted in let c6 = end-past.count in let c7 = wrote.count in omega arith)
     (let c7 = wrote.count in omega arith)
-    (wrote.table ∙ ap (λ o. set n2 q5.count (node o (kind.While l x))) is ∙ two_nodes statements r.place t u w kind.While refl (part first.count refl g) (part do-past.count end-past.count a))
-    (wrote.text ∙ end-past.text ∙ a.text ∙ do-past.text ∙ g.text ∙ first.text)
+    (wrote.table ∙ ap (λ o. set (table_in q5) q5.count (node o (kind.While l x))) is ∙ two_nodes statements r.current.place t u w kind.While refl (part first.count first.table refl refl g) (part do-past.count do-past.table end-past.count end-past.table a))
+    (first.along >> g.along >> do-past.along >> a.along >> end-past.along >> wrote.along)
     (λ k. repeats d e h first k ∙ g.goes (this lexeme.Do ∷ loop_body (within e) k) ∙ expected do-past (loop_body (within e) k) ∙ a.goes (this lexeme.End ∷ k) ∙ expected end-past k ∙ wrote_verdict wrote k)
 
-pub hold_read : {d e n x root p : ℕ} {r q1 q2 q3 q4 q5 o : Reader} {old mid new : List Node} → d ≡ e + 1 → Past (fixed lexeme.Hold) r q1 → leb n 7 ≡ true → Past (number n) q1 q2 → Past (fixed lexeme.Do) q2 q3 → WholeOf list e q3 q4 x old mid → Past (fixed lexeme.End) q4 q5 → p ≡ r.place → Wrote (node p (kind.Hold n x)) q5 o mid new → root ≡ q5.count → WholeOf statement d r o root old new
-hold_read {d} {e} {n} {x} {root} {p} {r} {q1} {q2} {q3} {q4} {q5} {o} {old} {mid} {new} h first fits latch-past do-past a end-past is wrote at-root =
+pub hold_read : {d e n x root p : ℕ} {r q1 q2 q3 q4 q5 o : Reader} → d ≡ e + 1 → Past (fixed lexeme.Hold) r q1 → leb n 7 ≡ true → Past (number n) q1 q2 → Past (fixed lexeme.Do) q2 q3 → WholeOf list e q3 q4 x → Past (fixed lexeme.End) q4 q5 → p ≡ r.current.place → Wrote (node p (kind.Hold n x)) q5 o → root ≡ q5.count → WholeOf statement d r o root
+hold_read {d} {e} {n} {x} {root} {p} {r} {q1} {q2} {q3} {q4} {q5} {o} h first fits latch-past do-past a end-past is wrote at-root =
     let u = a.tree in
-    let w = tree.hold r.place n u in
+    let w = tree.hold r.current.place n u in
     got w
-    (subst (λ s. Derives statements statement (within d) s w (rest o)) (sym (first.spot ∙ ap (λ s. at r.place (fixed lexeme.Hold) ∷ s) (latch-past.spot ∙ ap (λ s. at q1.place (number n) ∷ s) do-past.spot))) (subst (λ s. Derives statements statement (within d) (at r.place (fixed lexeme.Hold) ∷ at q1.place (number n) ∷ at q2.place (fixed lexeme.Do) ∷ rest q3) w s) (sym wrote.rest_stays) (a_hold (inside_of d e h) fits (subst (λ s. Derives statements list (within e) (rest q3) u s) end-past.spot a.derived))))
+    (subst (λ s. Derives statements statement (within d) s w (rest o)) (sym (first.spot ∙ ap (λ s. at r.current.place (fixed lexeme.Hold) ∷ s) (latch-past.spot ∙ ap (λ s. at q1.current.place (number n) ∷ s) do-past.spot))) (subst (λ s. Derives statements statement (within d) (at r.current.place (fixed lexeme.Hold) ∷ at q1.current.place (number n) ∷ at q2.current.place (fixed lexeme.Do) ∷ rest q3) w s) (sym wrote.rest_stays) (a_hold (inside_of d e h) fits (subst (λ s. Derives statements list (within e) (rest q3) u s) end-past.spot a.derived))))
     (let c0 = first.count in let c1 = latch-past.count in let c2 = do-past.count in let c3 = a.counted in let c6 = end-past.count in let c7 = wrote.count in omega arith)
     (let c7 = wrote.count in omega arith)
-    (wrote.table ∙ ap (λ o. set mid q5.count (node o (kind.Hold n x))) is ∙ one_node statements r.place u w (kind.Hold n) refl (part (do-past.count ∙ latch-past.count ∙ first.count) end-past.count a))
-    (wrote.text ∙ end-past.text ∙ a.text ∙ do-past.text ∙ latch-past.text ∙ first.text)
+    (wrote.table ∙ ap (λ o. set (table_in q5) q5.count (node o (kind.Hold n x))) is ∙ one_node statements r.current.place u w (kind.Hold n) refl (part (do-past.count ∙ latch-past.count ∙ first.count) (do-past.table ∙ latch-past.table ∙ first.table) end-past.count end-past.table a))
+    (first.along >> latch-past.along >> do-past.along >> a.along >> end-past.along >> wrote.along)
     (λ k. holds d e h first k ∙ latched d fits latch-past (this lexeme.Do ∷ loop_body (within e) k) ∙ expected do-past (loop_body (within e) k) ∙ a.goes (this lexeme.End ∷ k) ∙ expected end-past k ∙ wrote_verdict wrote k)

@@ -6,12 +6,8 @@ use Rattle.grammar.specs.Grammar.{rules}
 use Rattle.rules.specs.Names.{words_of}
 use Rattle.rules.specs.Nodes.{size, table_of}
 use Rattle.rules.specs.Reading.{Reads, accepted}
-use Rattle.rules.specs.declared.fault.Fault.{Fault}
-use Rattle.rules.specs.declared.fault.Fault.TheVariants as fault
 use Rattle.rules.specs.declared.node.Node.{Node}
 use Rattle.rules.specs.declared.text.Reading.{Reading}
-use Rattle.rules.specs.declared.refusal.ReadRefusal.{ReadRefusal}
-use Rattle.rules.specs.declared.refusal.ReadRefusal.TheVariants.{Misfit, Limit}
 
 -- a text was read into a table of n places, which now holds the nodes of its rule and then blanks
 pub record Accepted (text : List ℕ) (n : ℕ) (reading : Reading) (table : List Node) : Type 0 where
@@ -22,8 +18,3 @@ pub record Accepted (text : List ℕ) (n : ℕ) (reading : Reading) (table : Lis
   pub named : reading.names.count ≡ length (names_of text)
   pub is_given : reading.given ≡ rule.given
   pub tabled : table ≡ table_of n rule
-
--- the refusal that a fault is
-abbrev pub refusal_of : Fault → ReadRefusal
-refusal_of (fault.Misfit p) = Misfit p
-refusal_of (fault.Limit p) = Limit p

@@ -1,5 +1,7 @@
 -- The numbers and places of what a reading refuses.
 use Rattle.std.specs.Prelude.{ℕ}
+use Rattle.rules.specs.declared.fault.Fault.{Fault}
+use Rattle.rules.specs.declared.fault.Fault.TheVariants as fault
 use Rattle.rules.specs.declared.refusal.ReadRefusal.{ReadRefusal}
 use Rattle.rules.specs.declared.refusal.ReadRefusal.TheVariants.{TooLong, Empty, Misfit, Limit, TableFull}
 
@@ -17,3 +19,8 @@ refusal_place Empty = 0
 refusal_place (Misfit p) = p
 refusal_place (Limit p) = p
 refusal_place TableFull = 0
+
+-- the refusal that a fault is
+abbrev pub refusal_of : Fault → ReadRefusal
+refusal_of (fault.Misfit p) = Misfit p
+refusal_of (fault.Limit p) = Limit p

@@ -1,6 +1,7 @@
 // Reads a rule text into nodes. docs/rule-language.md has the rules.
 #![tactic(auto)]
 
+mod chain;
 mod conds;
 mod fault;
 mod given;

@@ -1,25 +1,29 @@
-ghost use Rattle.std.specs.Prelude.{◌≡◌, ◌≤◌, length};
-ghost use Rattle.std.specs.Option.{option_map};
-ghost use Rattle.std.specs.List.{slice_get};
-ghost use Rattle.tokens.specs.Tokens.{cell_of};
-ghost use Rattle.rules.specs.Names.{words_of, Celled};
+ghost use Rattle.std.specs.Prelude.{◌≡◌, ◌≤◌, length, take};
 
-use tokens::spells;
+// How many names a rule may have.
+const NAMES: usize = 32;
 
-// The names of a rule in the order of their cells, each the stretch of the text where it first stands.
+// The names of a rule in the order of their cells, each the stretch of the text where it first stands. A rule hands out a copy of them,
+// so plain places and their count hold them: a vector of fixed places is not Copy.
 #[derive(Clone, Copy)]
 pub struct Names<'a> {
-    pub(crate) words: [&'a [u8]; 32],
+    pub(crate) words: [&'a [u8]; NAMES],
     pub(crate) count: usize,
+    ghost places: { length words ≡ 32 },
+    ghost few: { count ≤ 32 },
 }
 
 impl<'a> Names<'a> {
+    ghost use Rattle.std.specs.Option.{option_map};
+    ghost use Rattle.std.specs.List.{slice_get, position};
+    ghost use Rattle.std.specs.Str.{bytes_eq};
+    ghost use Rattle.rules.specs.Names.{words_of, Celled};
+
     pub(crate) fn new() -> Names<'a>
-        ensures none { result.count ≡ 0 }
-        ensures places { length result.words ≡ 32 }
+        ensures { result.count ≡ 0 }
     {
         Names {
-            words: [b""; 32],
+            words: [b""; NAMES],
             count: 0,
         }
     }
@@ -35,43 +39,31 @@ impl<'a> Names<'a> {
     pub fn get(&self, cell: usize) -> Option<&'a [u8]>
         ensures { option_map (λ x. x.now) result ≡ slice_get (words_of self.now) cell }
     {
-        if cell < self.count {
-            self.words.get(cell).copied()
-        } else {
-            None
-        }
+        self.words[..self.count].get(cell).copied()
     }
 
     // The cell of a word, which is added where it is new; None where there is no place for it.
     pub(crate) fn cell(&mut self, word: &'a [u8]) -> Option<usize>
-        requires { (length self.old.words ≡ 32) × (self.old.count ≤ 32) }
-        ensures cell { Celled word.now self.old self.new result }
-        ensures places { length self.new.words ≡ 32 }
-        ensures few { self.new.count ≤ 32 }
+        ensures { Celled word.now self.old self.new result }
     {
-        let cell = self.position(word);
-        if cell < self.count {
+        if let Some(cell) = self.position(word) {
             return Some(cell);
         }
-        if cell >= 32 {
+        let cell = self.count;
+        if cell == NAMES {
             return None;
         }
         self.words[cell] = word;
-        self.count = cell + 1;
+        self.count += 1;
         Some(cell)
     }
 
-    // The cell of a word, or the next where it is new.
-    fn position(&self, word: &[u8]) -> usize
-        requires { (length self.now.words ≡ 32) × (self.now.count ≤ 32) }
-        ensures is { result ≡ cell_of (words_of self.now) word.now }
-        ensures within { result ≤ self.now.count }
+    // The cell of a word that is among the names.
+    fn position(&self, word: &[u8]) -> Option<usize>
+        ensures { result ≡ position (λ x. bytes_eq x.now word.now) (take self.now.count self.now.words) }
     {
-        for i in 0..self.count {
-            if spells(self.words[i], word) {
-                return i;
-            }
-        }
-        self.count
+        self.words[..self.count]
+            .iter()
+            .position(|known| *known == word)
     }
 }

@@ -1,12 +1,13 @@
-// A node of a rule: its place in the text and its kind. A part that is a node is given by its number in the table.
-#[derive(Clone, Copy)]
+// A node of a rule: its place in the text and its kind. A part that is a node is given by its number in the table: the table is lent by
+// the caller, and its size has a refusal of its own, so no part is boxed.
+#[derive(Clone, Copy, PartialEq, Eq, Debug)]
 pub struct Node {
     pub place: usize,
     pub kind: Kind,
 }
 
 // What construct a node is, with its parts.
-#[derive(Clone, Copy)]
+#[derive(Clone, Copy, PartialEq, Eq, Debug)]
 pub enum Kind {
     Number(i64),
     Cell(usize),

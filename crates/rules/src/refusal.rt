@@ -1,8 +1,11 @@
+ghost use Rattle.rules.specs.Refusals.{refusal_number, refusal_place, refusal_of};
 ghost use Rattle.std.specs.Prelude.{◌≡◌};
-ghost use Rattle.rules.specs.Refusals.{refusal_number, refusal_place};
+
+use crate::fault::Fault;
+use refusals::Refusal;
 
 // Why a text is not read into a table.
-#[derive(Clone, Copy)]
+#[derive(Clone, Copy, PartialEq, Eq, Debug)]
 pub enum ReadRefusal {
     TooLong,
     Empty,
@@ -11,10 +14,12 @@ pub enum ReadRefusal {
     TableFull,
 }
 
-impl ReadRefusal {
-    pub fn number(&self) -> u8
-        ensures { result ≡ refusal_number self.now }
-    {
+impl Refusal for ReadRefusal {
+    ghost number = { refusal_number };
+
+    ghost place = { refusal_place };
+
+    fn number(&self) -> u8 {
         match self {
             ReadRefusal::TooLong => 4,
             ReadRefusal::Empty => 5,
@@ -24,12 +29,21 @@ impl ReadRefusal {
         }
     }
 
-    pub fn place(&self) -> usize
-        ensures { result ≡ refusal_place self.now }
-    {
+    fn place(&self) -> usize {
         match self {
             ReadRefusal::Misfit(place) | ReadRefusal::Limit(place) => *place,
             ReadRefusal::TooLong | ReadRefusal::Empty | ReadRefusal::TableFull => 0,
+        }
+    }
+}
+
+impl From<Fault> for ReadRefusal {
+    ghost from_gives = { λ fault refusal. refusal ≡ refusal_of fault };
+
+    fn from(fault: Fault) -> ReadRefusal {
+        match fault {
+            Fault::Misfit(place) => ReadRefusal::Misfit(place),
+            Fault::Limit(place) => ReadRefusal::Limit(place),
         }
     }
 }

@@ -1,113 +1,100 @@
 // The readers of lists and statements.
-ghost use Rattle.std.specs.Prelude.{◌≡◌, true, MatchResult};
+ghost use Rattle.std.specs.Prelude.{◌≡◌};
 ghost use Rattle.tokens.specs.declared.lexeme.Lexeme.TheVariants.{If, While, Hold};
 ghost use Rattle.tokens.specs.declared.token.Token.TheVariants.{Name};
-ghost use Rattle.grammar.specs.Grammar.{within, list, statement};
-ghost use Rattle.grammar.specs.Automaton.{need};
-ghost use Rattle.rules.specs.Readers.{lexeme_of, is_lexeme, Passable, Roomy, WholeOf, Fails};
+ghost use Rattle.grammar.specs.Grammar.{list, statement};
+ghost use Rattle.rules.specs.Readers.{Begins, Gives};
 
+use crate::chain::Chain;
 use crate::fault::Fault;
-use crate::node::{Kind, Node};
+use crate::node::Kind;
 use crate::reader::Reader;
-use crate::taking::deeper;
 use tokens::{Lexeme, Token};
 
-impl<'a> Reader<'a> {
+impl<'a> Reader<'a, '_> {
     #[cycle(choice_holding_list_repetition_statement)]
-    pub(crate) fn list(&mut self, depth: u8, nodes: &mut [Node]) -> Result<usize, Fault>
-        requires { Roomy self.old }
-        ensures { MatchResult result (λ root. WholeOf list depth self.old self.new root nodes.old nodes.new) (λ f. Fails (need list (within depth)) self.old f) }
+    pub(crate) fn list(&mut self, depth: u8) -> Result<usize, Fault>
+        ensures { Gives list depth self.old self.new result }
     {
-        let mut left = self.statement(depth, nodes)?;
-        while self.is(Lexeme::Semicolon) {
-            let place = self.pass();
-            let right = self.statement(depth, nodes)?;
-            left = self.put(nodes, place, Kind::Then(left, right));
-        }
-        Ok(left)
+        self.chain(
+            Chain::List,
+            depth,
+            |r, d|
+                ensures { Gives statement d r.entry.now r.exit.now result }
+            { r.statement(d) },
+        )
     }
 
     #[cycle(choice_holding_list_repetition_statement)]
-    fn statement(&mut self, depth: u8, nodes: &mut [Node]) -> Result<usize, Fault>
-        requires { Roomy self.old }
-        ensures { MatchResult result (λ root. WholeOf statement depth self.old self.new root nodes.old nodes.new) (λ f. Fails (need statement (within depth)) self.old f) }
+    fn statement(&mut self, depth: u8) -> Result<usize, Fault>
+        ensures { Gives statement depth self.old self.new result }
     {
-        if let Token::Name(word) = self.token {
-            return self.assignment(word, depth, nodes);
+        if let Token::Name(word) = self.current.token {
+            return self.assignment(word, depth);
         }
-        if self.is(Lexeme::Skip) {
-            let place = self.pass();
-            return Ok(self.put(nodes, place, Kind::Skip));
+        match self.current.token.lexeme() {
+            Some(Lexeme::Skip) => Ok(self.leaf(Kind::Skip)),
+            Some(Lexeme::Leave) => Ok(self.leaf(Kind::Leave)),
+            Some(Lexeme::If) => self.choice(depth),
+            Some(Lexeme::While) => self.repetition(depth),
+            Some(Lexeme::Hold) => self.holding(depth),
+            _ => Err(Fault::Misfit(self.current.place)),
         }
-        if self.is(Lexeme::Leave) {
-            let place = self.pass();
-            return Ok(self.put(nodes, place, Kind::Leave));
-        }
-        if self.is(Lexeme::If) {
-            return self.choice(depth, nodes);
-        }
-        if self.is(Lexeme::While) {
-            return self.repetition(depth, nodes);
-        }
-        if self.is(Lexeme::Hold) {
-            return self.holding(depth, nodes);
-        }
-        Err(Fault::Misfit(self.place))
     }
 
     // The statements that the current token begins: a name, `if`, `while` and `hold`.
-    fn assignment(&mut self, word: &'a [u8], depth: u8, nodes: &mut [Node]) -> Result<usize, Fault>
-        requires { (Roomy self.old) × (self.old.token ≡ Name word) }
-        ensures { MatchResult result (λ root. WholeOf statement depth self.old self.new root nodes.old nodes.new) (λ f. Fails (need statement (within depth)) self.old f) }
+    fn assignment(&mut self, word: &'a [u8], depth: u8) -> Result<usize, Fault>
+        requires { self.old.current.token ≡ Name word }
+        ensures { Gives statement depth self.old self.new result }
     {
-        let place = self.place;
+        let place = self.current.place;
         let cell = self.name(word)?;
         self.expect(Lexeme::Becomes)?;
-        let sum = self.sum(depth, nodes)?;
-        Ok(self.put(nodes, place, Kind::Assign(cell, sum)))
+        let sum = self.sum(depth)?;
+        Ok(self.put(place, Kind::Assign(cell, sum)))
     }
 
     #[cycle(choice_holding_list_repetition_statement)]
-    fn choice(&mut self, depth: u8, nodes: &mut [Node]) -> Result<usize, Fault>
-        requires { (Roomy self.old) × ((true ≡ is_lexeme (lexeme_of self.old.token) If) × (Passable self.old.token)) }
-        ensures { MatchResult result (λ root. WholeOf statement depth self.old self.new root nodes.old nodes.new) (λ f. Fails (need statement (within depth)) self.old f) }
+    fn choice(&mut self, depth: u8) -> Result<usize, Fault>
+        requires { Begins If self.old }
+        ensures { Gives statement depth self.old self.new result }
     {
-        let inner = deeper(depth, self.place)?;
+        let inner = self.deeper(depth)?;
         let place = self.pass();
-        let test = self.cond(inner, nodes)?;
+        let test = self.cond(inner)?;
         self.expect(Lexeme::Then)?;
-        let first = self.list(inner, nodes)?;
+        let first = self.list(inner)?;
         self.expect(Lexeme::Else)?;
-        let second = self.list(inner, nodes)?;
+        let second = self.list(inner)?;
         self.expect(Lexeme::End)?;
-        Ok(self.put(nodes, place, Kind::If(test, first, second)))
+        Ok(self.put(place, Kind::If(test, first, second)))
     }
 
     #[cycle(choice_holding_list_repetition_statement)]
-    fn repetition(&mut self, depth: u8, nodes: &mut [Node]) -> Result<usize, Fault>
-        requires { (Roomy self.old) × ((true ≡ is_lexeme (lexeme_of self.old.token) While) × (Passable self.old.token)) }
-        ensures { MatchResult result (λ root. WholeOf statement depth self.old self.new root nodes.old nodes.new) (λ f. Fails (need statement (within depth)) self.old f) }
+    fn repetition(&mut self, depth: u8) -> Result<usize, Fault>
+        requires { Begins While self.old }
+        ensures { Gives statement depth self.old self.new result }
     {
-        let inner = deeper(depth, self.place)?;
+        let inner = self.deeper(depth)?;
         let place = self.pass();
-        let test = self.cond(inner, nodes)?;
+        let test = self.cond(inner)?;
         self.expect(Lexeme::Do)?;
-        let body = self.list(inner, nodes)?;
+        let body = self.list(inner)?;
         self.expect(Lexeme::End)?;
-        Ok(self.put(nodes, place, Kind::While(test, body)))
+        Ok(self.put(place, Kind::While(test, body)))
     }
 
     #[cycle(choice_holding_list_repetition_statement)]
-    fn holding(&mut self, depth: u8, nodes: &mut [Node]) -> Result<usize, Fault>
-        requires { (Roomy self.old) × ((true ≡ is_lexeme (lexeme_of self.old.token) Hold) × (Passable self.old.token)) }
-        ensures { MatchResult result (λ root. WholeOf statement depth self.old self.new root nodes.old nodes.new) (λ f. Fails (need statement (within depth)) self.old f) }
+    fn holding(&mut self, depth: u8) -> Result<usize, Fault>
+        requires { Begins Hold self.old }
+        ensures { Gives statement depth self.old self.new result }
     {
-        let inner = deeper(depth, self.place)?;
+        let inner = self.deeper(depth)?;
         let place = self.pass();
-        let latch = self.latch(depth)?;
+        let latch = self.latch()?;
         self.expect(Lexeme::Do)?;
-        let body = self.list(inner, nodes)?;
+        let body = self.list(inner)?;
         self.expect(Lexeme::End)?;
-        Ok(self.put(nodes, place, Kind::Hold(latch, body)))
+        Ok(self.put(place, Kind::Hold(latch, body)))
     }
 }

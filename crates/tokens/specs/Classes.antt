@@ -1,5 +1,5 @@
--- The classes of bytes, and the runs of bytes of one class.
-use Rattle.std.specs.Prelude.{ℕ, suc, Bool, cond, ◌&&◌, ◌||◌, List, [], ◌∷◌, ◌==◌, nat_le}
+-- The classes of bytes.
+use Rattle.std.specs.Prelude.{ℕ, Bool, ◌&&◌, ◌||◌, ◌==◌, nat_le}
 use Rattle.console.specs.Numbers.{is_digit}
 use Rattle.tokens.specs.declared.class.Class.{Class}
 use Rattle.tokens.specs.declared.class.Class.TheVariants.{Blank, Letter, Digit}
@@ -17,8 +17,3 @@ abbrev pub belongs : Class → ℕ → Bool
 belongs Blank b = is_blank b
 belongs Letter b = is_letter b
 belongs Digit b = is_digit b
-
--- how many bytes at the front are of a class
-abbrev pub run : (ℕ → Bool) → List ℕ → ℕ
-run class [] = 0
-run class (b ∷ s) = cond (class b) (suc (run class s)) 0

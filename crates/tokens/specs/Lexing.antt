@@ -1,6 +1,7 @@
 -- What a token of the code stands for.
 use Rattle.std.specs.Prelude.{◌≡◌, ℕ, ◌+◌, Bool, true, false, List, [], ◌∷◌, drop, Some, None, Option, slice_index, slice_range}
 use Rattle.console.specs.Numbers.{all_digits, value_after}
+use Rattle.tokens.specs.Lexemes.{same_lexeme}
 use Rattle.tokens.specs.Tokens.{Symbol, name, number, fixed, stray, Spot, at, cell_of, reserved, sign, equals_first, names_with, tokens_from}
 use Rattle.tokens.specs.declared.lexeme.Lexeme.{Lexeme}
 use Rattle.tokens.specs.declared.token.Token.{Token}
@@ -14,6 +15,20 @@ symbol names (token.Keyword m w) = Some (fixed m)
 symbol names (token.Sign m) = Some (fixed m)
 symbol names token.Stray = Some stray
 symbol names token.EndOfText = None
+
+-- the lexeme that a token is
+abbrev pub lexeme_of : Token → Option Lexeme
+lexeme_of (token.Name w) = None
+lexeme_of (token.Number w) = None
+lexeme_of (token.Keyword m w) = Some m
+lexeme_of (token.Sign m) = Some m
+lexeme_of token.Stray = None
+lexeme_of token.EndOfText = None
+
+-- whether that is the lexeme m
+abbrev pub is_lexeme : Option Lexeme → Lexeme → Bool
+is_lexeme None m = false
+is_lexeme (Some n) m = same_lexeme n m
 
 -- a symbol at p before the tokens of the text from the offset i on
 abbrev pub placed : List (List ℕ) → ℕ → Option Symbol → ℕ → List ℕ → List Spot

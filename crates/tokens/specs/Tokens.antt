@@ -1,8 +1,9 @@
 -- The tokens of a text as the grammar sees them: its symbols, each at its place, with the names numbered as cells.
 use Rattle.std.specs.Prelude.{ℕ, zero, suc, ◌+◌, ◌-◌, Bool, false, cond, ◌&&◌, List, [], ◌∷◌, take, drop, Some, None, codes, Option, ◌==◌}
+use Rattle.std.specs.List.{prefix_len}
 use Rattle.std.specs.Str.{bytes_eq}
 use Rattle.console.specs.Numbers.{is_digit, value_after}
-use Rattle.tokens.specs.Classes.{is_blank, is_letter, run}
+use Rattle.tokens.specs.Classes.{is_blank, is_letter}
 use Rattle.tokens.specs.declared.lexeme.Lexeme.{Lexeme}
 use Rattle.tokens.specs.declared.lexeme.Lexeme.TheVariants as lexeme
 
@@ -80,12 +81,21 @@ equals_first (b ∷ s) = b == 61
 -- the token that begins with the byte b before s, and its width
 abbrev pub symbol_at : List (List ℕ) → ℕ → List ℕ → Symbol
 symbol_at names b s =
-    cond (is_letter b) (worded names (take (run is_letter (b ∷ s)) (b ∷ s)) (reserved (take (run is_letter (b ∷ s)) (b ∷ s))))
-    (cond (is_digit b) (number (value_after 0 (take (run is_digit (b ∷ s)) (b ∷ s))))
+    cond (is_letter b) (worded names (take (prefix_len is_letter (b ∷ s)) (b ∷ s)) (reserved (take (prefix_len is_letter (b ∷ s)) (b ∷ s))))
+    (cond (is_digit b) (number (value_after 0 (take (prefix_len is_digit (b ∷ s)) (b ∷ s))))
     (signed (sign b (equals_first s)).0))
 
 abbrev pub width_at : ℕ → List ℕ → ℕ
-width_at b s = cond (is_letter b) (run is_letter (b ∷ s)) (cond (is_digit b) (run is_digit (b ∷ s)) (sign b (equals_first s)).1)
+width_at b s = cond (is_letter b) (prefix_len is_letter (b ∷ s)) (cond (is_digit b) (prefix_len is_digit (b ∷ s)) (sign b (equals_first s)).1)
+
+-- the token that a text begins with, if it has one, and its width
+abbrev pub first_symbol : List (List ℕ) → List ℕ → Option Symbol
+first_symbol names [] = None
+first_symbol names (b ∷ s) = Some (symbol_at names b s)
+
+abbrev pub first_width : List ℕ → ℕ
+first_width [] = 0
+first_width (b ∷ s) = width_at b s
 
 -- the names after one more token
 abbrev pub names_with : List (List ℕ) → Symbol → List (List ℕ)

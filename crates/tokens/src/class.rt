@@ -1,8 +1,9 @@
-ghost use Rattle.std.specs.Prelude.{◌≡◌};
+ghost use Rattle.std.specs.Prelude.{◌≡◌, ◌≤◌, length};
+ghost use Rattle.std.specs.List.{prefix_len};
 ghost use Rattle.tokens.specs.Classes.{belongs};
 
-// The classes of bytes that tokens are made of or parted by.
-#[derive(Clone, Copy)]
+// The classes of bytes that tokens are made of or parted by. Clauses name a class, so it is an enum and no closure.
+#[derive(Clone, Copy, PartialEq, Eq, Debug)]
 pub enum Class {
     Blank,
     Letter,
@@ -14,19 +15,17 @@ impl Class {
     pub fn has(self, b: u8) -> bool
         ensures { result ≡ belongs self b }
     {
-        match self {
-            Class::Blank => match b as char {
-                ' ' | '\n' => true,
-                _ => false,
-            },
-            Class::Letter => match b as char {
-                'a'..='z' => true,
-                _ => false,
-            },
-            Class::Digit => match b as char {
-                '0'..='9' => true,
-                _ => false,
-            },
-        }
+        matches!(
+            (self, b as char),
+            (Class::Blank, ' ' | '\n') | (Class::Letter, 'a'..='z') | (Class::Digit, '0'..='9')
+        )
+    }
+
+    // How many bytes at the front are of this class.
+    pub(crate) fn run(self, text: &[u8]) -> usize
+        ensures value { result ≡ prefix_len (belongs self) text.now }
+        ensures within { result ≤ length text.now }
+    {
+        text.iter().take_while(|b| self.has(**b)).count()
     }
 }

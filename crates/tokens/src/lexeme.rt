@@ -1,8 +1,5 @@
-ghost use Rattle.std.specs.Prelude.{◌≡◌};
-ghost use Rattle.tokens.specs.Lexemes.{same_lexeme};
-
 // A token that is always spelt alike: a reserved word or a sign.
-#[derive(Clone, Copy)]
+#[derive(Clone, Copy, PartialEq, Eq, Debug)]
 pub enum Lexeme {
     Given,
     Skip,
@@ -30,13 +27,4 @@ pub enum Lexeme {
     Close,
     OpenSquare,
     CloseSquare,
-}
-
-impl Lexeme {
-    // Whether it is the same lexeme.
-    pub fn is(self, other: Lexeme) -> bool
-        ensures { result ≡ same_lexeme self other }
-    {
-        self as u8 == other as u8
-    }
 }

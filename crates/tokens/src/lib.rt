@@ -4,11 +4,9 @@
 mod class;
 mod lexeme;
 mod scan;
-mod spelling;
 mod token;
 
 pub use class::Class;
 pub use lexeme::Lexeme;
 pub use scan::next_token;
-pub use spelling::spells;
 pub use token::{Lexed, Token};

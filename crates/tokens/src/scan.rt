@@ -1,77 +1,54 @@
-ghost use Rattle.std.specs.Prelude.{◌≡◌, ℕ, ◌+◌, ◌-◌, ◌<◌, ◌≤◌, Bool, true, false, List, length, drop, Some, slice_index, slice_range};
-ghost use Rattle.tokens.specs.Classes.{belongs, run};
-ghost use Rattle.tokens.specs.Tokens.{reserved, sign, worded, signed, symbol_at, width_at, tokens_from};
+ghost use Rattle.std.specs.Prelude.{◌≡◌, ℕ, ◌+◌, ◌-◌, ◌<◌, ◌≤◌, true, false, List, length, Some, slice_range};
+ghost use Rattle.tokens.specs.Tokens.{reserved, sign, worded, signed, first_symbol, first_width, tokens_from};
 ghost use Rattle.tokens.specs.Lexing.{symbol, with_token, sign_at, Spelt};
 ghost use Rattle.tokens.specs.declared.token.Token.TheVariants.{EndOfText};
 
 use crate::class::Class;
 use crate::lexeme::Lexeme;
-use crate::spelling::spells;
 use crate::token::{Lexed, Token};
 
 // The first token at or after the offset `from`.
-pub fn next_token<'a>(text: &'a [u8], from: usize) -> Lexed<'a>
+pub fn next_token(text: &[u8], from: usize) -> Lexed<'_>
     ensures tokens { (names : List (List ℕ)) → with_token names result.place result.token result.end text.now ≡ tokens_from names from text.now }
     ensures spelt { Spelt text.now result.token result.place result.end }
     ensures within { result.end ≤ length text.now }
     ensures ended { result.token ≡ EndOfText → result.place ≡ length text.now }
 {
-    let start = if from < text.len() { from } else { text.len() };
-    let place = run_end(text, start, Class::Blank);
-    if place == text.len() {
-        return Lexed {
-            token: Token::EndOfText,
-            place,
-            end: place,
-        };
+    let start = from.min(text.len());
+    let place = start + Class::Blank.run(&text[start..]);
+    let (token, width) = first_token(&text[place..]);
+    Lexed {
+        token,
+        place,
+        end: place + width,
     }
-    let (token, end) = token_at(text, place);
-    Lexed { token, place, end }
 }
 
-// Where the longest run of bytes of a class ends, from `start` on.
-fn run_end(text: &[u8], start: usize, class: Class) -> usize
-    requires { start ≤ length text.now }
-    ensures is { result ≡ start + run (belongs class) (drop start text.now) }
-    ensures within { result ≤ length text.now }
-    ensures stops { result < length text.now → belongs class (slice_index text.now result) ≡ false }
+// The token that a text begins with, and its width.
+fn first_token(text: &[u8]) -> (Token<'_>, usize)
+    ensures symbol { (names : List (List ℕ)) → symbol names result.0 ≡ first_symbol names text.now }
+    ensures width { result.1 ≡ first_width text.now }
+    ensures spelt { Spelt text.now result.0 0 result.1 }
 {
-    let mut end = start;
-    while end < text.len() && class.has(text[end]) {
-        end += 1;
+    match text {
+        [] => (Token::EndOfText, 0),
+        [b, ..] if Class::Letter.has(*b) => {
+            let width = Class::Letter.run(text);
+            (word_token(&text[..width]), width)
+        }
+        [b, ..] if Class::Digit.has(*b) => {
+            let width = Class::Digit.run(text);
+            (Token::Number(&text[..width]), width)
+        }
+        [b, rest @ ..] => {
+            let (lexeme, width) = sign(*b, rest.starts_with(b"="));
+            (sign_token(lexeme), width)
+        }
     }
-    end
-}
-
-// The token that begins at `start`, and where it ends.
-fn token_at<'a>(text: &'a [u8], start: usize) -> (Token<'a>, usize)
-    requires { start < length text.now }
-    ensures symbol { (names : List (List ℕ)) → symbol names result.0 ≡ Some (symbol_at names (slice_index text.now start) (drop (start + 1) text.now)) }
-    ensures spelt { Spelt text.now result.0 start result.1 }
-    ensures end { result.1 ≡ start + width_at (slice_index text.now start) (drop (start + 1) text.now) }
-    ensures after { start < result.1 }
-    ensures within { result.1 ≤ length text.now }
-{
-    let b = text[start];
-    if Class::Letter.has(b) {
-        let end = run_end(text, start, Class::Letter);
-        return (word_token(&text[start..end]), end);
-    }
-    if Class::Digit.has(b) {
-        let end = run_end(text, start, Class::Digit);
-        return (Token::Number(&text[start..end]), end);
-    }
-    let equals = if start + 1 < text.len() {
-        text[start + 1] == b'='
-    } else {
-        false
-    };
-    let (lexeme, width) = sign(b, equals);
-    (sign_token(lexeme), start + width)
 }
 
 // A word is reserved or a name.
-fn word_token<'a>(part: &'a [u8]) -> Token<'a>
+fn word_token(part: &[u8]) -> Token<'_>
     ensures symbol { (names : List (List ℕ)) → symbol names result ≡ Some (worded names part.now (reserved part.now)) }
     ensures spelt { (text : List ℕ) (p q : ℕ) → part.now ≡ slice_range text p q → Spelt text result p q }
 {
@@ -95,36 +72,22 @@ fn sign_token<'a>(lexeme: Option<Lexeme>) -> Token<'a>
 fn reserved(part: &[u8]) -> Option<Lexeme>
     ensures { result ≡ reserved part.now }
 {
-    if spells(part, b"given") {
-        Some(Lexeme::Given)
-    } else if spells(part, b"skip") {
-        Some(Lexeme::Skip)
-    } else if spells(part, b"leave") {
-        Some(Lexeme::Leave)
-    } else if spells(part, b"if") {
-        Some(Lexeme::If)
-    } else if spells(part, b"then") {
-        Some(Lexeme::Then)
-    } else if spells(part, b"else") {
-        Some(Lexeme::Else)
-    } else if spells(part, b"end") {
-        Some(Lexeme::End)
-    } else if spells(part, b"while") {
-        Some(Lexeme::While)
-    } else if spells(part, b"do") {
-        Some(Lexeme::Do)
-    } else if spells(part, b"hold") {
-        Some(Lexeme::Hold)
-    } else if spells(part, b"true") {
-        Some(Lexeme::True)
-    } else if spells(part, b"false") {
-        Some(Lexeme::False)
-    } else if spells(part, b"not") {
-        Some(Lexeme::Not)
-    } else if spells(part, b"and") {
-        Some(Lexeme::And)
-    } else {
-        None
+    match part {
+        b"given" => Some(Lexeme::Given),
+        b"skip" => Some(Lexeme::Skip),
+        b"leave" => Some(Lexeme::Leave),
+        b"if" => Some(Lexeme::If),
+        b"then" => Some(Lexeme::Then),
+        b"else" => Some(Lexeme::Else),
+        b"end" => Some(Lexeme::End),
+        b"while" => Some(Lexeme::While),
+        b"do" => Some(Lexeme::Do),
+        b"hold" => Some(Lexeme::Hold),
+        b"true" => Some(Lexeme::True),
+        b"false" => Some(Lexeme::False),
+        b"not" => Some(Lexeme::Not),
+        b"and" => Some(Lexeme::And),
+        _ => None,
     }
 }
 
