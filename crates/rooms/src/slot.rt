@@ -1,6 +1,4 @@
-ghost use Rattle.std.specs.Prelude.{◌≡◌};
-ghost use Rattle.rooms.specs.Meaning.{empty, cell_answer, cell_after};
-ghost use Rattle.rooms.specs.Kinds.{slot_meaning};
+ghost use Rattle.std.specs.Prelude.{◌≡◌, length};
 
 use crate::latch::{is_held, turn};
 use crate::refusal::RoomRefusal;
@@ -15,9 +13,14 @@ const LATCHES: usize = 8;
 pub struct SlotRoom {
     cells: [Option<i64>; CELLS],
     latches: [bool; LATCHES],
+    // how long the arrays are, for those who only know a room
+    ghost sized: { (length cells ≡ 64) × (length latches ≡ 8) },
 }
 
 impl SlotRoom {
+    ghost use Rattle.rooms.specs.Meaning.{empty, cell_answer, cell_after};
+    ghost use Rattle.rooms.specs.Kinds.{slot_meaning};
+
     // Every cell unfilled, every latch free.
     pub fn new() -> SlotRoom
         ensures { slot_meaning result ≡ empty 64 8 }
@@ -43,6 +46,8 @@ impl SlotRoom {
 }
 
 impl Cells for SlotRoom {
+    ghost use Rattle.rooms.specs.Kinds.{slot_meaning};
+
     ghost meaning = { slot_meaning };
 
     fn size(&self) -> usize {
