@@ -1,11 +1,15 @@
 -- Hexadecimal digits, two at a time. Assumes nothing.
-use Rattle.std.proofs.Common.{◌≡◌, ℕ, zero, suc, ◌+◌, ◌*◌, ◌/◌, ◌%◌, ◌<◌, ◌≤◌, false, ◌&&◌, ◌-◌, ◌^◌, List, [], ◌∷◌, ◌++◌, length, get_or, take, drop, is_some, Some, None, Option, sym, refl, ap, ◌∙◌, arith}
+use Rattle.std.proofs.Common.{◌≡◌, ℕ, zero, suc, ◌+◌, ◌*◌, ◌/◌, ◌%◌, ◌<◌, ◌≤◌, false, ◌&&◌, ◌-◌, ◌^◌, List, [], ◌∷◌, ◌++◌, length, get_or, take, drop, replicate, is_some, Some, None, Option, sym, refl, ap, ◌∙◌, ⊎_elim, arith}
 use Rattle.std.specs.Option.{option_map}
-use Rattle.std.proofs.lemmas.List.{take_more, take_all, at_drop_more, at_drop_all, append-nil, flat_map_more}
+use Rattle.std.proofs.lemmas.List.{append_assoc, drop-drop, take-append-drop, replicate_more, take_more, take_all, at_drop_more, at_drop_all, append-nil, flat_map_more}
 use Rattle.std.specs.Simd.{first_chunks}
-use Rattle.std.specs.Fmt.{digits, format_spec, padded_integral}
-use Rattle.std.proofs.lemmas.Fmt.{hex_byte}
-use Rattle.std.specs.List.{list_all}
+use Rattle.std.specs.Fmt.{digits_onto, digits, format_spec, padded_integral, char_count}
+use Rattle.std.proofs.DigitsParse.{digits_onto-nil, digits_onto_last, digits_onto_step}
+use Rattle.std.proofs.lemmas.Bool.{cases_lt}
+use Rattle.std.proofs.lemmas.Grind.{flat_map-append}
+use Rattle.std.proofs.Math.Nat.{div-div-eq-div-mul}
+use Rattle.std.specs.Int.{w64, to_be_bytes}
+use Rattle.std.specs.List.{list_all, flat_map}
 use Rattle.std.proofs.lemmas.Bool.Decides.{nat_tests}
 use Rattle.console.specs.Hex.{digit_value, byte_of, before, bytes_of, digit_of, hex_of, Unfit, ReadsBack}
 
@@ -87,11 +91,51 @@ reads_back (b ∷ bytes) h =
     let whole : 16 * (b / 16) + b % 16 ≡ b = omega arith in
     rw (high, low, reads_back bytes h.1, whole)
 
--- what `{:02x}` writes of a byte
-abbrev pub two_digits : ℕ → List ℕ
-two_digits b = padded_integral (format_spec 32 0 4 2 (2 ^ 64 - 1)) false [] (digits 16 false b)
+-- the last k digits of n, before others
+abbrev last_digits : ℕ → ℕ → List ℕ → List ℕ
+last_digits zero n ds = ds
+last_digits (suc k) n ds = last_digits k (n / 16) (digit_of (n % 16) ∷ ds)
 
-pub one_written : (bytes : List ℕ) (i : ℕ) → i < length bytes → get_or bytes i 0 < 256 → hex_of (take i bytes) ++ two_digits (get_or bytes i 0) ≡ hex_of (take (i + 1) bytes)
-one_written bytes i inside small =
-    ap (λ l. hex_of (take i bytes) ++ l) (hex_byte false (get_or bytes i 0) small)
-    ∙ flat_map_more (λ b. digit_of (b / 16) ∷ digit_of (b % 16) ∷ []) [] (take i bytes) (get_or bytes i 0) ∙ ap hex_of (sym (take_more bytes i 0 inside))
+zeros : (k : ℕ) (ds : List ℕ) → replicate k 48 ++ ds ≡ last_digits k 0 ds
+zeros zero ds = refl
+zeros (suc k) ds = grind (arith, replicate_more {X = ℕ} k 48, append_assoc (replicate k 48) (48 ∷ []) ds, zeros k (48 ∷ ds))
+
+-- the digits of a number, with zeros before them up to k digits
+filled : (k i n : ℕ) (ds : List ℕ) → k ≤ i → 0 < k + n → n < 16 ^ k → replicate (k + length ds - length (digits_onto i 16 false n ds)) 48 ++ digits_onto i 16 false n ds ≡ last_digits k n ds
+filled zero i n ds deep some small = absurd (omega arith)
+filled (suc k) i n ds deep some small = ⊎_elim
+    (λ one.
+    let front : n / 16 ≡ 0 = omega arith in
+    let pad : suc k + length ds - suc (length ds) ≡ k = omega arith in
+    rw (digits_onto_last 16 false n ds i (omega arith) front, front, pad) (zeros k (digit_of (n % 16) ∷ ds)))
+    (λ more.
+    let pad : suc k + length ds ≡ k + suc (length ds) = omega arith in
+    rw (digits_onto_step 16 false n ds i (omega arith) (omega arith), pad) (filled k (i - 1) (n / 16) (digit_of (n % 16) ∷ ds) (omega arith) (omega arith) (omega arith)))
+    (cases_lt n 16)
+
+-- what `{:0kx}` writes
+abbrev pub padded : ℕ → ℕ → List ℕ
+padded k n = padded_integral (format_spec 32 0 4 k (2 ^ 64 - 1)) false [] (digits 16 false n)
+
+-- of a number below 2 ^ 64 that is the digits of its eight bytes
+pub eight_digits : (n : ℕ) → n < 2 ^ 64 → padded 16 n ≡ hex_of (to_be_bytes w64 n)
+unfolding padded_integral char_count
+eight_digits n small =
+    let pad : 16 - length (digits 16 false n) - 0 - 0 ≡ 16 - length (digits 16 false n) = omega arith in
+    let high : (b : ℕ) → b % 256 / 16 ≡ b / 16 % 16 = λ b. omega arith in
+    let low : (b : ℕ) → b % 256 % 16 ≡ b % 16 = λ b. omega arith in
+    let same : last_digits 16 n [] ≡ hex_of (to_be_bytes w64 n) = simp (high, low, div-div-eq-div-mul) cc in
+    rw (append-nil (digits 16 false n), pad, sym (digits_onto-nil 16 false n)) (filled 16 64 n [] (omega arith) (omega arith) small) ∙ same
+
+-- bytes in eights, and then those that are left
+pub joined : (k : ℕ) (bytes : List ℕ) → flat_map hex_of (first_chunks 8 k bytes) ++ hex_of (drop (k * 8) bytes) ≡ hex_of bytes
+joined zero bytes = refl
+joined (suc k) bytes =
+    let far : suc k * 8 ≡ 8 + k * 8 = omega arith in
+    let halves = flat_map-append (λ b. digit_of (b / 16) ∷ digit_of (b % 16) ∷ []) (take 8 bytes) (drop 8 bytes) in
+    rw (far, sym (drop-drop (k * 8) 8 bytes)) (append_assoc (hex_of (take 8 bytes)) _ _ ∙ ap (λ l. hex_of (take 8 bytes) ++ l) (joined k (drop 8 bytes)) ∙ sym halves ∙ ap hex_of (take-append-drop 8 bytes))
+
+-- one more eight, or one more byte
+pub one_written : {X : Type 0} (f : X → List ℕ) (xs : List X) (i : ℕ) (d : X) (ds : List ℕ) → i < length xs → ds ≡ f (get_or xs i d) → flat_map f (take i xs) ++ ds ≡ flat_map f (take (i + 1) xs)
+one_written f xs i d ds inside is =
+    ap (λ l. flat_map f (take i xs) ++ l) is ∙ flat_map_more f [] (take i xs) (get_or xs i d) ∙ ap (flat_map f) (sym (take_more xs i d inside))

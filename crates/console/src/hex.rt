@@ -1,5 +1,7 @@
 // Bytes in hexadecimal: two digits in small letters for each byte, the high one first.
-ghost use Rattle.std.specs.Prelude.{◌≡◌, ◌≢◌, ◌↔◌, ◌<◌, ◌*◌, length, is_some, Some, IfSome, MatchResult};
+ghost use Rattle.std.specs.Prelude.{◌≡◌, ◌≢◌, ◌↔◌, ◌<◌, ◌+◌, ◌*◌, ◌/◌, ◌%◌, length, is_some, Some, MatchOption, MatchResult};
+ghost use Rattle.std.specs.Simd.{first_chunks};
+ghost use Rattle.std.specs.Int.{w64, to_be_bytes};
 ghost use Rattle.console.specs.Hex.{digit_value, byte_of, bytes_of, hex_of, Unfit, ReadsBack};
 
 use std::fmt;
@@ -25,7 +27,7 @@ pub fn hex_fill(word: &[u8], out: &mut [u8]) -> Result<(), HexError>
     let (pairs, _) = word.as_chunks::<2>();
     // By index, since nothing is known of what a zip with `iter_mut` wrote.
     for (i, [high, low]) in pairs.iter().enumerate() {
-        out[i] = byte(digit_value(*high), digit_value(*low)).ok_or(HexError::Digit)?;
+        out[i] = byte(*high, *low).ok_or(HexError::Digit)?;
     }
     Ok(())
 }
@@ -34,20 +36,36 @@ pub fn hex_fill(word: &[u8], out: &mut [u8]) -> Result<(), HexError>
 pub fn is_hex(word: &[u8]) -> bool
     ensures { result ≡ is_some (bytes_of word.now) }
 {
-    let (pairs, rest) = word.as_chunks::<2>();
-    rest.is_empty()
-        && pairs.iter().all(|[high, low]| byte(digit_value(*high), digit_value(*low)).is_some())
+    let Some(pairs) = pairs_of(word) else {
+        return false;
+    };
+    pairs.iter().all(|[high, low]| byte(*high, *low).is_some())
 }
 
-// The byte of a high and a low digit.
-pub(crate) fn byte(high: Option<u8>, low: Option<u8>) -> Option<u8>
-    requires high { IfSome high (λ h. h < 16) }
-    requires low { IfSome low (λ l. l < 16) }
-    ensures { result ≡ byte_of high low }
+// The digits of a word two at a time, or None where one is left over.
+fn pairs_of(word: &[u8]) -> Option<&[[u8; 2]]>
+    ensures { MatchOption result (length word.now % 2 ≢ 0) (λ pairs. (length word.now % 2 ≡ 0) × (pairs.now ≡ first_chunks 2 (length word.now / 2) word.now)) }
 {
-    let h = high?;
-    let l = low?;
-    Some(16 * h + l)
+    let (pairs, rest) = word.as_chunks();
+    rest.is_empty().then_some(pairs)
+}
+
+// The byte that a high and a low digit write.
+fn byte(high: u8, low: u8) -> Option<u8>
+    ensures { result ≡ byte_of (digit_value high) (digit_value low) }
+{
+    let high = digit_value(high)?;
+    let low = digit_value(low)?;
+    Some(from_digits(high, low))
+}
+
+// The byte of the values of a high and a low digit.
+pub(crate) fn from_digits(high: u8, low: u8) -> u8
+    requires high { high < 16 }
+    requires low { low < 16 }
+    ensures { result ≡ 16 * high + low }
+{
+    16 * high + low
 }
 
 // The value of a digit. Capitals are none here, so `to_digit` would take too many.
@@ -61,6 +79,13 @@ fn digit_value(b: u8) -> Option<u8>
     }
 }
 
+// Eight bytes as a number, the high one first. It is apart, since only of a parameter it is known that it holds eight, and bytes.
+fn number(eight: &[u8; 8]) -> u64
+    ensures { to_be_bytes w64 result ≡ eight.now }
+{
+    u64::from_be_bytes(*eight)
+}
+
 // Bytes that print in hexadecimal.
 #[derive(Clone, Copy)]
 pub struct Hex<'a>(pub &'a [u8]);
@@ -69,7 +94,13 @@ impl fmt::Display for Hex<'_> {
     ghost output = { λ h. Some (hex_of h.0.now) };
 
     fn fmt<W: fmt::Write>(&self, f: &mut fmt::Formatter<W>) -> fmt::Result {
-        for &b in self.0 {
+        // Eight bytes to a `write!`, since a `write!` costs more than the digits of one byte.
+        let (eights, last) = self.0.as_chunks::<8>();
+        for eight in eights {
+            let n = number(eight);
+            write!(f, "{n:016x}")?;
+        }
+        for &b in last {
             write!(f, "{b:02x}")?;
         }
         Ok(())

@@ -4,7 +4,7 @@ ghost use Rattle.std.specs.Prelude.{◌≡◌, ◌+◌, ◌<◌, min, length, ta
 ghost use Rattle.std.specs.Option.{option_map};
 ghost use Rattle.console.specs.Text.{any_digit_value, escaped_byte, text_of, Begins, TextsFit};
 
-use crate::hex::byte;
+use crate::hex::from_digits;
 
 // Fills the front of `out` with the bytes that `written` stands for, as many as find a place there, and says how many
 // these are, as `Read::read` does. None where `written` is no TEXT; `out` may then hold any bytes.
@@ -52,8 +52,9 @@ fn next_byte(written: &[u8]) -> Option<(u8, &[u8])>
 {
     match written {
         [b'\\', b'x', high, low, after @ ..] => {
-            let b = byte(any_digit_value(*high), any_digit_value(*low))?;
-            Some((b, after))
+            let high = any_digit_value(*high)?;
+            let low = any_digit_value(*low)?;
+            Some((from_digits(high, low), after))
         }
         [b'\\', b, after @ ..] => Some((escaped_byte(*b)?, after)),
         [] | [b'\\'] => None,

@@ -27,14 +27,14 @@ impl RecordRoom {
     pub fn open(bytes: &[u8]) -> Result<RecordRoom, BadRecord>
         ensures { elim result [ Ok room ↦ room.bytes ≡ bytes.now | Err why ↦ Spoils why bytes.now ] }
     {
-        let bytes: [u8; LENGTH] = bytes.try_into().map_err(|_| BadRecord::Length)?;
-        if let Some(c) = wrong_mark(&bytes) {
+        let bytes: &[u8; LENGTH] = bytes.try_into().map_err(|_| BadRecord::Length)?;
+        if let Some(c) = wrong_mark(bytes) {
             return Err(BadRecord::Mark(c));
         }
         if bytes[LATCH_BYTE] > 15 {
             return Err(BadRecord::Latches);
         }
-        Ok(RecordRoom { bytes })
+        Ok(RecordRoom { bytes: *bytes })
     }
 
     // The record as it is now: bytes that open again as a room of the same meaning.
